@@ -90,7 +90,7 @@ fn overwrite(bytes: &mut Vec<u8>, from: usize, piece: &[u8]) -> Result<(), Alloc
     Ok(())
 }
 
-// Where there is no room for so many bytes more, makes room for several times what is then there, at most for the
+// Where there is no room for `more` bytes, makes room for several times what is then there, at most for the
 // longest file: a content that is written in pieces moves seldom. Where memory runs out it makes none.
 fn make_room(bytes: &mut Vec<u8>, more: usize)
     ensures { bytes.new.items ≡ bytes.old.items }

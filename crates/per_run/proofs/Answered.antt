@@ -16,7 +16,7 @@ use Rattle.per_list.specs.declared.forms.Form.{Form}
 use Rattle.root_recovery.specs.Clauses.{RecoveryKeeps}
 use Rattle.root_recovery.specs.Recoveries.{most_written, none_left}
 use Rattle.per_backup.specs.Backups.{exporting, importing_into}
-use Rattle.per_backup.specs.Clauses.{ImportKeeps}
+use Rattle.per_backup.specs.Clauses.{ImportKeeps, WritesImport}
 use Rattle.per_run.specs.declared.endings.Ending.{Ending}
 use Rattle.per_run.specs.declared.endings.Ending.TheVariants.{AllRead, EndLine, BadLine, OutOfMemory, Source, Sink}
 use Rattle.per_run.specs.declared.endings.Ending.TheVariants.{TooLong}
@@ -210,14 +210,16 @@ some_refused (Some e) row answers is = refl
 
 pub makes_none : (told : Bool) (app : ℕ) (name text : List ℕ) (status : ℕ) (now : Option (List ℕ)) (old new : Medium)
     → (status ≡ 3) ⊎ (status ≡ 4) → (IsTrue told → ImportKeeps app name text old new)
+    → (IsTrue told → WritesImport app name text old new)
     → FailsAtThree status old.faults new.faults → Makes told app name text status now now old new
-makes_none told app name text status now old new is keeps failed = record {
+makes_none told app name text status now old new is keeps written failed = record {
   it = app_at old.image app;
   seen = λ tells. refl;
   answers = answers_none (λ after. codes "ok\n") (importing_into (app_at old.image app) name text) status now is;
   refused = λ done. absurd (not_done status is done);
   imported = λ tells done. absurd (not_done status is done);
   keeps = keeps;
+  written = written;
   quiet = λ done. absurd (not_done status is done);
   failed = failed;
 }

@@ -1,25 +1,30 @@
 -- Disks that were formatted, and jobs that did not come to their output.
-use Rattle.std.proofs.Common.{ℕ, zero, suc, List, [], ◌∷◌, replicate, ◌≡◌, ◌≤◌, ◌<◌, ◌+◌, ◌*◌, ◌⊎◌, refl, sym, ◌∙◌, ap}
-use Rattle.std.proofs.Common.{ap₂, subst, arith, Option, None, Bool, IsTrue}
+use Rattle.std.proofs.Common.{ℕ, zero, suc, List, [], ◌∷◌, replicate, ◌≡◌, ◌≤◌, ◌<◌, ◌+◌, ◌*◌, ◌⊎◌, inl, inr, refl, sym, ◌∙◌}
+use Rattle.std.proofs.Common.{ap, ap₂, subst, arith, Option, None, Bool, IsTrue}
+use Rattle.disk_model.specs.Frame.{Spares}
 use Rattle.disk_model.specs.Image.{Image}
-use Rattle.disk_model.specs.Medium.{Medium}
+use Rattle.disk_model.specs.Medium.{Medium, OnlyReads}
 use Rattle.migrate_fns.specs.Rules.{Rule, Answers}
 use Rattle.command_text.specs.Generated.{generated}
 use Rattle.deploy_laws.specs.Apps.{App, absent, app_at, says_at}
 use Rattle.deploy_rows.specs.Costs.{format_cost, manifests_at, root_cost}
 use Rattle.deploy_rows.specs.Laws.{NoManifestsLaw}
 use Rattle.deploy_rows.specs.Rows.{empty_app}
-use Rattle.run_model.specs.Bounds.{AreBounded}
+use Rattle.run_model.specs.Bounds.{AreBounded, bytes_after}
 use Rattle.run_model.specs.Costs.{roots_cost}
+use Rattle.run_model.specs.Endings as endings
+use Rattle.run_model.specs.Lines.{Give}
 use Rattle.run_model.specs.Moments.{last_of}
 use Rattle.run_model.specs.RunLaws.{ends_settled}
-use Rattle.run_model.specs.Runs.{IsSettled}
-use Rattle.run_model.specs.Runtimes.{Memory}
-use Rattle.run_model.specs.Turns.{Turn, AreBlamed, Follow, bytes_now, replies_of, worlds_of}
-use Rattle.run_model.specs.Worlds.{Application, World, after_start, all_resting, formatted, resting, world_at}
+use Rattle.run_model.specs.Runs as runs
+use Rattle.run_model.specs.Runs.{DiskSide, IsSettled, Progress, between, starting}
+use Rattle.run_model.specs.Runtimes.{IsNoRoot, Memory, StartKeeps}
+use Rattle.run_model.specs.Turns.{AreBlamed, DiskBytes, Follow, Turn, bytes_now, events_of, replies_of, worlds_of}
+use Rattle.run_model.specs.Worlds.{Application, Disks, World, after_start, all_resting, formatted, resting, world_at}
 use Rattle.per_run.specs.declared.tally.Tally.{Tally}
-use Rattle.per_run.specs.Jobs.{FailsAtThree, Formats, Generates, WritesOutput, summary}
-use Rattle.per_run.specs.Steps.{Counted, IsGoing, IsServeBegun, Tallies}
+use Rattle.per_run.specs.Jobs.{FailsAtThree, Formats, Generates, IsLeftBy, WritesOutput, summary}
+use Rattle.per_run.specs.Serves.{FormatsWithin}
+use Rattle.per_run.specs.Steps.{Counted, IsGoing, IsServeBegun, RunsShort, Tallies}
 use Rattle.per_run.proofs.Courses.{counts_whole}
 use Rattle.per_run.proofs.Goes.{goes_none}
 use Rattle.per_run.proofs.Outputs.{not_done, writes_none}
@@ -61,24 +66,58 @@ bare_roots law image each =
     let a7 = bare_root law image 7 (each 7 (omega arith)) in
     omega (arith, a0, a1, a2, a3, a4, a5, a6, a7)
 
+-- ---- the formatting and the start
+
+-- what they cost
+within : (image : Image) (was mid now : ℕ) → roots_cost image 8 ≡ 8 * root_cost [] → mid ≤ was + 8 * format_cost
+    → now ≤ mid + roots_cost image 8 → now ≤ was + (8 * format_cost + 8 * root_cost [])
+within image was mid now bare formats starts = omega (arith, bare, formats, starts)
+
+pub spares_on : {spared : ℕ → Type 0} {a b c : Image} → Spares spared a b → Spares spared b c → Spares spared a c
+spares_on first later file is = later file is ∙ first file is
+
+-- a formatting that did not end
+pub formats_short : {old new : Medium} → Spares IsNoRoot old.image new.image
+    → new.written ≤ old.written + 8 * format_cost → FormatsWithin old new
+formats_short roots written = record { roots = roots; written = omega (arith, written) }
+
+-- one that did, and the start after it
+pub formats_on : {old middle new : Medium} → Spares IsNoRoot old.image middle.image
+    → middle.written ≤ old.written + 8 * format_cost → roots_cost middle.image 8 ≡ 8 * root_cost []
+    → StartKeeps middle new → FormatsWithin old new
+formats_on {old} {middle} {new} roots written bare keeps = record {
+  roots = spares_on roots keeps.roots;
+  written = within middle.image old.written middle.written new.written bare written keeps.written;
+}
+
+-- one that was looked for first
+pub formats_later : {old middle new : Medium} → OnlyReads old middle → FormatsWithin middle new → FormatsWithin old new
+formats_later {old} {middle} {new} reads formats = record {
+  roots = λ file is. formats.roots file is ∙ ap (λ (i : Image). i file) reads.image;
+  written = let same = reads.written in let cost = formats.written in omega (arith, same, cost);
+}
+
 -- ---- jobs that did not come to their output
 
 pub formats_none : (told : Bool) (status : ℕ) (now : Option (List ℕ)) (old new : Medium) → (status ≡ 3) ⊎ (status ≡ 4)
-    → new.written ≤ old.written + 8 * format_cost → FailsAtThree status old.faults new.faults
+    → (IsTrue told → Spares IsNoRoot old.image new.image) → new.written ≤ old.written + 8 * format_cost
+    → FailsAtThree status old.faults new.faults
     → Formats told status now now old new
-formats_none told status now old new is cost failed = record {
+formats_none told status now old new is roots cost failed = record {
   output = writes_none status now _ is;
   world = λ tells done. absurd (not_done status is done);
   clean = λ tells done. absurd (not_done status is done);
   quiet = λ done. absurd (not_done status is done);
+  roots = roots;
   written = cost;
   failed = failed;
 }
 
+-- the formatting or the start did not end
 pub generates_none : (told : Bool) (rules : List Rule) (answers : Answers) (n status : ℕ) (now : Option (List ℕ))
     (old new : Medium) → (status ≡ 3) ⊎ (status ≡ 4) → old.faults ≤ new.faults
-    → Generates told rules answers n status now now old new
-generates_none told rules answers n status now old new is later = record {
+    → (IsTrue told → FormatsWithin old new) → Generates told rules answers n status now now old new
+generates_none told rules answers n status now old new is later formats = record {
   turns = [];
   gives = λ done. absurd (not_done status is done);
   output = writes_none status now _ is;
@@ -90,10 +129,12 @@ generates_none told rules answers n status now old new is later = record {
   };
   follow = λ tells. tt;
   bounded = λ tells. record {
-    begun = bytes_now old;
-    starts = omega arith;
+    begun = bytes_now new;
+    roots = (formats tells).roots;
+    starts = (formats tells).written;
     bounded = tt;
-    held = λ done. absurd (not_done status is done);
+    held = λ done. refl;
+    left = inl refl;
   };
   settled = λ tells done. absurd (not_done status is done);
   clean = λ tells done. absurd (not_done status is done);
@@ -119,11 +160,6 @@ counted_none told rules answers memory tally old middle new begun none = record 
   tallies = none;
 }
 
--- what the formatting and the start cost
-within : (image : Image) (was mid now : ℕ) → roots_cost image 8 ≡ 8 * root_cost [] → mid ≤ was + 8 * format_cost
-    → now ≤ mid + roots_cost image 8 → now ≤ was + (8 * format_cost + 8 * root_cost [])
-within image was mid now bare formats starts = omega (arith, bare, formats, starts)
-
 follow_from : (rules : List Rule) (answers : Answers) (w v : World) (ts : List Turn) → w ≡ v → Follow rules answers w ts
     → Follow rules answers v ts
 follow_from rules answers w v ts is follow = subst (λ (x : World). Follow rules answers x ts) is follow
@@ -131,6 +167,57 @@ follow_from rules answers w v ts is follow = subst (λ (x : World). Follow rules
 pub counts_up : {told : Bool} {memory : Memory} {old middle new : Medium} {now : ℕ}
     → IsServeBegun told memory old middle new → new.faults ≤ now → old.faults ≤ now
 counts_up {now = now} begun later = subst (λ (n : ℕ). n ≤ now) (begun.started ∙ begun.passes) later
+
+-- what a run that memory ended left after its commands
+left_by : (rules : List Rule) (answers : Answers) (w : World) (lines all : List (List ℕ)) (turns : List Turn)
+    (reached : List World) (next : Disks) (begun held : DiskBytes) → Give lines (events_of turns)
+    → Progress rules answers endings.memory w lines all turns None None reached next begun held
+    → IsLeftBy rules answers w all turns (bytes_after begun turns) held
+left_by rules answers w lines all turns reached next begun held gives
+    (starting unbegun no_line no_lines none nothing still same) = absurd (unbegun tt)
+left_by rules answers w lines all turns reached next begun held gives (between begins through still same) = inl same
+left_by rules answers w lines all turns reached next begun held gives (runs.within begins open_end wrote through it) =
+    inr (lines, gives, next, it)
+
+-- memory ran out after the start
+pub generates_short : (told : Bool) (rules : List Rule) (answers : Answers) (n : ℕ) (now : Option (List ℕ))
+    (memory : Memory) (old middle begun new : Medium) → IsServeBegun told memory old middle begun
+    → RunsShort told rules answers middle (generated n) new → Generates told rules answers n 4 now now old new
+generates_short told rules answers n now memory old middle begun new b course = record {
+  turns = course.turns;
+  gives = λ done. absurd (not_done 4 (inr refl) done);
+  output = writes_none 4 now _ (inr refl);
+  failures = record {
+    last = course.failures.last;
+    blamed = subst (λ (n : ℕ). AreBlamed n course.turns course.failures.last) b.passes course.failures.blamed;
+    later = course.failures.later;
+    passes = λ done. absurd (not_done 4 (inr refl) done);
+  };
+  follow = λ tells. follow_from rules answers (after_start (world_at middle.image)) formatted course.turns (here tells)
+      (side tells).follow;
+  bounded = λ tells. record {
+    begun = (side tells).begun;
+    roots = spares_on (b.roots tells) (side tells).starts.roots;
+    starts = within middle.image old.written middle.written (side tells).begun.written (b.bare tells) b.written
+        (side tells).starts.written;
+    bounded = subst (λ (w : World). AreBounded rules answers w (side tells).begun course.turns) (here tells)
+        (side tells).bounded;
+    held = λ done. absurd (not_done 4 (inr refl) done);
+    left = subst (λ (w : World). IsLeftBy rules answers w (generated n) course.turns
+        (bytes_after (side tells).begun course.turns) (bytes_now new)) (here tells)
+        (left_by rules answers (after_start (world_at middle.image)) course.lines (generated n) course.turns
+        (side tells).reached (side tells).next (side tells).begun (bytes_now new) course.gives (side tells).progress);
+  };
+  settled = λ tells done. absurd (not_done 4 (inr refl) done);
+  clean = λ tells done. absurd (not_done 4 (inr refl) done);
+}
+  where
+    side : IsTrue told
+        → DiskSide rules answers endings.memory course.lines (generated n) course.turns None None middle new
+    side tells = course.disk tells
+
+    here : IsTrue told → after_start (world_at middle.image) ≡ formatted
+    here tells = ap after_start (b.world tells) ∙ start_formatted
 
 pub generates_all : (told : Bool) (rules : List Rule) (answers : Answers) (n status : ℕ) (before now : Option (List ℕ))
     (memory after : Memory) (tally : Tally) (old middle begun new : Medium)
@@ -150,10 +237,12 @@ generates_all told rules answers n status before now memory after tally old midd
   bounded = λ tells.
       let g : IsGoing rules answers middle counted.turns after new = counted.goes.disk tells in record {
         begun = g.2.begun;
+        roots = spares_on (b.roots tells) g.2.starts.roots;
         starts = within middle.image old.written middle.written g.2.begun.written (b.bare tells) b.written
             g.2.starts.written;
         bounded = subst (λ (w : World). AreBounded rules answers w g.2.begun counted.turns) (here tells) g.2.bounded;
         held = λ done. g.2.held;
+        left = inl g.2.held;
       };
   settled = λ tells done.
       let g : IsGoing rules answers middle counted.turns after new = counted.goes.disk tells in

@@ -1,11 +1,11 @@
 -- One reply more is counted; and the lines of a number, one after the other.
 use Rattle.std.proofs.Common.{ℕ, zero, suc, List, [], ◌∷◌, ◌++◌, length, map, ◌≡◌, ◌≤◌, ◌<◌, ◌+◌, ◌-◌, ◌^◌, ◌&&◌, not}
 use Rattle.std.proofs.Common.{min, cond, refl, sym, ◌∙◌, ap, ap₂, subst, arith, Option, Some, None, Bool, true, false}
-use Rattle.std.proofs.Common.{count_by, append_assoc, length-append, get_or, take, add-one, Bor}
+use Rattle.std.proofs.Common.{count_by, inl, ◌⊎◌, append-nil, append_assoc, drop, length-append, get_or, take, add-one, Bor}
 use Rattle.std.specs.Option.{option_or}
 use Rattle.std.proofs.lemmas.List.Sums.{sum_by_push, count_by-le-length}
 use Rattle.std.proofs.Math.Seq.{take-suc}
-use Rattle.std.proofs.lemmas.List.{length-take, map-append, take_all}
+use Rattle.std.proofs.lemmas.List.{length-take, map-append, take-append-drop, take_all}
 use Rattle.disk_model.specs.Medium.{Medium, IsLawful, Elapses}
 use Rattle.migrate_fns.specs.Rules.{Rule, Answers}
 use Rattle.command_text.specs.declared.replies.Answer.{Answer}
@@ -13,13 +13,18 @@ use Rattle.command_text.specs.declared.replies.Answer.TheVariants as answer
 use Rattle.command_text.specs.declared.replies.Reply.{Reply}
 use Rattle.command_text.specs.Generated.{first_lines, generated, generated_line, generated_lines, last_lines}
 use Rattle.command_text.specs.Generated.{next_number}
+use Rattle.run_model.specs.AppLaws.{AppLaws}
 use Rattle.run_model.specs.Runtimes.{Memory}
 use Rattle.run_model.specs.Turns.{Turn, turn, replies_of}
 use Rattle.run_model.specs.Worlds.{World}
+use Rattle.per_run.specs.declared.answering.LineOutcome.{LineOutcome}
+use Rattle.per_run.specs.declared.answering.LineOutcome.TheVariants as outcome
 use Rattle.per_run.specs.declared.tally.Tally.{Tally}
 use Rattle.per_run.specs.Jobs.{done_in, error_in, number_in, is_done, is_error, is_other, size_given, summary}
 use Rattle.per_run.specs.Jobs.{summary_text}
-use Rattle.per_run.specs.Steps.{Counted, Goes, IsLineAnswered, Tallies}
+use Rattle.per_run.specs.Steps.{BeginWith, Counted, Goes, Handled, IsLineAnswered, IsLineOutcome, IsStopped, RunsShort}
+use Rattle.per_run.specs.Steps.{Tallies}
+use Rattle.per_run.proofs.Courses.{course_memory, course_short}
 use Rattle.per_run.proofs.Gives.{give_turn, replies_on}
 use Rattle.per_run.proofs.Goes.{goes_on}
 
@@ -166,6 +171,17 @@ module _ (told : Bool) (rules : List Rule) (answers : Answers) (start : Medium) 
   counted_along lines same memory tally medium is counted =
       subst (λ (l : List (List ℕ)). Counted told rules answers start l memory tally medium) (sym is) counted
 
+-- ---- lines that begin with others
+
+pub begin_less : (lines more all : List (List ℕ)) → BeginWith (lines ++ more) all → BeginWith lines all
+begin_less lines more all begin = (more ++ begin.0, begin.1 ∙ append_assoc lines more begin.0)
+
+pub begin_as : (lines same all : List (List ℕ)) → lines ≡ same → BeginWith lines all → BeginWith same all
+begin_as lines same all is begin = subst (λ (l : List (List ℕ)). BeginWith l all) is begin
+
+pub begin_here : (all : List (List ℕ)) → BeginWith all all
+begin_here all = ([], sym (append-nil all))
+
 -- ---- the lines of a number
 
 -- the number after that many others
@@ -229,6 +245,27 @@ few_generated before n i few lt = omega (
   length_lines i 1 n,
 )
 
+-- the first of them are lines before the others
+lines_split : (a b i x : ℕ) → generated_lines (a + b) i x
+    ≡ generated_lines a i x ++ generated_lines b (i + a) (number_after x a)
+lines_split zero b i x = ap (λ (k : ℕ). generated_lines b k x) (place_none i)
+lines_split (suc a) b i x = ap (λ (ls : List (List ℕ)). generated_line (next_number x) i ∷ ls)
+    (lines_split a b (i + 1) (next_number x)
+    ∙ ap (λ (k : ℕ). generated_lines a (i + 1) (next_number x)
+    ++ generated_lines b k (number_after (next_number x) a)) (place_more i a))
+
+-- all lines begin with those up to the next one
+pub begin_generated : (before all : List (List ℕ)) (n i : ℕ) → i < n → BeginWith (before ++ generated_lines n 1 n) all
+    → BeginWith (before ++ generated_lines (i + 1) 1 n) all
+begin_generated before all n i lt begin =
+    let parts : n ≡ (i + 1) + (n - (i + 1)) = omega (arith, lt) in
+    begin_less (before ++ generated_lines (i + 1) 1 n)
+    (generated_lines (n - (i + 1)) (1 + (i + 1)) (number_after n (i + 1))) all
+    (begin_as _ _ all (ap (λ (k : ℕ). before ++ generated_lines k 1 n) parts
+    ∙ ap (λ (ls : List (List ℕ)). before ++ ls) (lines_split (i + 1) (n - (i + 1)) 1 n)
+    ∙ sym (append_assoc before (generated_lines (i + 1) 1 n)
+    (generated_lines (n - (i + 1)) (1 + (i + 1)) (number_after n (i + 1))))) begin)
+
 -- ---- lines that are borrowed
 
 abbrev pub texts_of : List (Bor (List ℕ)) → List (List ℕ)
@@ -264,3 +301,59 @@ few_each before lines i few = omega (
 pub each_whole : (before : List (List ℕ)) (lines : List (Bor (List ℕ))) (i : ℕ) → length lines ≤ i
     → before ++ texts_of lines ≡ before ++ texts_of (take i lines)
 each_whole before lines i all = ap (λ (ls : List (Bor (List ℕ))). before ++ texts_of ls) (sym (take_all i lines all))
+
+-- all of them begin with those up to the next one
+pub begin_each : (before all : List (List ℕ)) (lines : List (Bor (List ℕ))) (i : ℕ)
+    → BeginWith (before ++ texts_of lines) all → BeginWith (before ++ texts_of (take i lines)) all
+begin_each before all lines i begin = begin_less (before ++ texts_of (take i lines)) (texts_of (drop i lines)) all
+    (begin_as _ _ all (ap (λ (ls : List (Bor (List ℕ))). before ++ texts_of ls) (sym (take-append-drop i lines))
+    ∙ ap (λ (ls : List (List ℕ)). before ++ ls)
+    (map-append (λ (l : Bor (List ℕ)). l.now) (take i lines) (drop i lines))
+    ∙ sym (append_assoc before (texts_of (take i lines)) (texts_of (drop i lines)))) begin)
+
+-- ---- memory ran out
+
+-- a line of which no command was answered did nothing, or memory ran out in its command
+pub unanswered : {D : Type 0} (told : Bool) (medium : D → Medium) (rules : List Rule) (answers : Answers)
+    (text : List ℕ) (memory after : Memory) (old new : D) (r : LineOutcome)
+    → ((reply : Reply) → r ≡ outcome.Answered reply → ⊥)
+    → IsLineOutcome told medium rules answers text memory after old new r
+    → (new ≡ old) ⊎ IsStopped told rules answers text memory (medium old) (medium new)
+unanswered told medium rules answers text memory after old new outcome.Nothing none it = inl it.2
+unanswered told medium rules answers text memory after old new outcome.End none it = inl it.1
+unanswered told medium rules answers text memory after old new outcome.Bad none it = inl it.2
+unanswered told medium rules answers text memory after old new (outcome.Answered reply) none it =
+    absurd (none reply refl)
+unanswered told medium rules answers text memory after old new outcome.OutOfMemory none it = it
+
+module _ (told : Bool) (rules : List Rule) (answers : Answers) (start : Medium) where
+  counted_handled : (lines : List (List ℕ)) (memory : Memory) (tally : Tally) (medium : Medium)
+      → Counted told rules answers start lines memory tally medium
+      → Handled told rules answers start None lines None memory medium
+  counted_handled lines memory tally medium counted = record {
+    turns = counted.turns;
+    gives = counted.gives;
+    wrote = tt;
+    goes = counted.goes;
+  }
+
+  -- between commands
+  pub short_between : AppLaws → (lines all : List (List ℕ)) (memory : Memory) (tally : Tally) (medium : Medium)
+      → Counted told rules answers start lines memory tally medium → BeginWith lines all
+      → RunsShort told rules answers start all medium
+  short_between laws lines all memory tally medium counted begin =
+      subst (λ (l : List (List ℕ)). RunsShort told rules answers start l medium) (sym begin.1)
+      (course_memory told rules answers start None laws lines begin.0 None None memory medium
+      (counted_handled lines memory tally medium counted) tt)
+
+  -- at a line: in reading it, or in its command
+  pub short_at : {D : Type 0} (medium : D → Medium) → AppLaws → (lines all : List (List ℕ)) (text : List ℕ)
+      (memory : Memory) (tally : Tally) (old new : D) → IsLawful told (medium new) → Elapses (medium old) (medium new)
+      → Counted told rules answers start lines memory tally (medium old)
+      → (new ≡ old) ⊎ IsStopped told rules answers text memory (medium old) (medium new)
+      → BeginWith (lines ++ text ∷ []) all → RunsShort told rules answers start all (medium new)
+  short_at {D} medium laws lines all text memory tally old new lawful time counted ends begin =
+      subst (λ (l : List (List ℕ)). RunsShort told rules answers start l (medium new))
+      (sym (begin.1 ∙ append_assoc lines (text ∷ []) begin.0))
+      (course_short told rules answers start None medium laws lines begin.0 None memory old new text lawful time
+      (counted_handled lines memory tally (medium old) counted) ends)

@@ -10,6 +10,7 @@ use Rattle.std.specs.Fmt.{decimal}
 use Rattle.std.specs.Io.KnownBytes.{Appends, Consumes, IsAtEnd, Keeps}
 use Rattle.per_base.specs.Causes.{Rose}
 use Rattle.per_base.specs.declared.errors.PerError.{PerError}
+use Rattle.disk_model.specs.Frame.{Spares}
 use Rattle.disk_model.specs.Medium.{Medium, Quiet}
 use Rattle.migrate_fns.specs.Rules.{Rule, Answers}
 use Rattle.command_text.specs.declared.replies.Answer.{Answer}
@@ -25,9 +26,10 @@ use Rattle.run_model.specs.Lines.{Give}
 use Rattle.run_model.specs.Lives.{LooksOnly}
 use Rattle.run_model.specs.Moments.{AreSoundDoubts, last_of}
 use Rattle.run_model.specs.Runs as runs
-use Rattle.run_model.specs.Runs.{IsSettled}
+use Rattle.run_model.specs.Runs.{IsInProgress, IsSettled}
+use Rattle.run_model.specs.Runtimes.{IsNoRoot}
 use Rattle.run_model.specs.Turns.{DiskBytes, Turn, bytes_now, events_of, replies_of, worlds_of, CountsFailures, Follow}
-use Rattle.run_model.specs.Worlds.{world_at, formatted}
+use Rattle.run_model.specs.Worlds.{Disks, World, formatted, world_at}
 use Rattle.per_audit.specs.Audits.{elements_at, findings_at}
 use Rattle.per_audit.specs.AuditText.{audit_text}
 use Rattle.per_audit.specs.declared.findings.Finding.{Finding}
@@ -38,7 +40,7 @@ use Rattle.root_recovery.specs.Clauses.{IsRecovered, RecoveryKeeps}
 use Rattle.root_recovery.specs.Recoveries.{IsRefused, RootRow, most_written}
 use Rattle.root_recovery.specs.Texts.{recovery_text}
 use Rattle.per_backup.specs.Backups.{exporting, importing_into}
-use Rattle.per_backup.specs.Clauses.{ImportKeeps, Imported, IsAppSeen}
+use Rattle.per_backup.specs.Clauses.{ImportKeeps, Imported, IsAppSeen, WritesImport}
 use Rattle.per_run.specs.declared.words.JobKind.{JobKind}
 use Rattle.per_run.specs.declared.words.JobKind.TheVariants.{Run, Serve, Format, Generate, Audit, Listing, Export}
 use Rattle.per_run.specs.declared.words.JobKind.TheVariants.{Import, RecoverRoot}
@@ -80,7 +82,8 @@ pub record Formats (told : Bool) (status : ℕ) (before now : Option (List ℕ))
   pub world : IsTrue told → CameToOutput status → world_at new.image ≡ formatted
   pub clean : IsTrue told → CameToOutput status → (app : ℕ) → app < 8 → IsCleanApp app new.image
   pub quiet : CameToOutput status → Quiet new
-  -- no more is written than the formatting of eight roots costs
+  -- only slots of roots change, and no more is written than the formatting of eight roots costs, however it ends
+  pub roots : IsTrue told → Spares IsNoRoot old.image new.image
   pub written : new.written ≤ old.written + 8 * format_cost
   pub failed : FailsAtThree status old.faults new.faults
 
@@ -126,14 +129,25 @@ abbrev pub summary : (lines : ℕ) → List Reply → List ℕ
 summary lines rs = summary_text lines (count_by is_done rs) (count_by is_other rs) (count_by is_error rs)
     (size_given rs)
 
+-- after these commands nothing was written; or memory ran out in the command of the next line, of the lines `all`, and
+-- it was in progress: it began at the bytes `left`
+abbrev pub IsLeftBy : List Rule → Answers → (start : World) → (all : List (List ℕ)) → List Turn → (left now : DiskBytes)
+    → Type 0
+IsLeftBy rules answers start all turns left now = (now ≡ left)
+    ⊎ ((lines : List (List ℕ)) × Give lines (events_of turns) × (next : Disks)
+    × IsInProgress rules answers (last_of start (worlds_of turns)) lines all next left now)
+
 -- What these commands wrote: each from the bytes on that were there before it, the first from those that the start
--- left, which formatted eight roots and opened them; and after the last nothing, where the job came to its output.
-pub record IsGeneratedWithin (rules : List Rule) (answers : Answers) (turns : List Turn) (Whole : Type 0)
+-- left, which formatted eight roots and opened them, however far it came; and after the last nothing, where the job came
+-- to its output, and else no more than the command that was in progress.
+pub record IsGeneratedWithin (rules : List Rule) (answers : Answers) (n : ℕ) (turns : List Turn) (Whole : Type 0)
     (old new : Medium) : Type 0 where
   pub begun : DiskBytes
+  pub roots : Spares IsNoRoot old.image begun.image
   pub starts : begun.written ≤ old.written + (8 * format_cost + 8 * root_cost [])
   pub bounded : AreBounded rules answers formatted begun turns
   pub held : Whole → bytes_now new ≡ bytes_after begun turns
+  pub left : IsLeftBy rules answers formatted (generated n) turns (bytes_after begun turns) (bytes_now new)
 
 -- the lines that the number gives, each with its reply and its world from the formatted one on: the applications as the
 -- disk denotes them and memory keeps them
@@ -144,7 +158,7 @@ pub record Generates (told : Bool) (rules : List Rule) (answers : Answers) (n st
   pub output : WritesOutput status before now (summary (length (generated n)) (replies_of turns))
   pub failures : CountsFailures (CameToOutput status) old.faults turns new.faults
   pub follow : IsTrue told → Follow rules answers formatted turns
-  pub bounded : IsTrue told → IsGeneratedWithin rules answers turns (CameToOutput status) old new
+  pub bounded : IsTrue told → IsGeneratedWithin rules answers n turns (CameToOutput status) old new
   pub settled : IsTrue told → CameToOutput status → IsSettled (last_of formatted (worlds_of turns)) new
   pub clean : IsTrue told → CameToOutput status → (app : ℕ) → app < 8 → AreSoundDoubts app (worlds_of turns)
       → IsCleanApp app new.image
@@ -232,8 +246,9 @@ pub record Makes (told : Bool) (app : ℕ) (name text : List ℕ) (status : ℕ)
   pub answers : AnswersOr (λ after. codes "ok\n") (importing_into it name text) status before now
   pub refused : CameToOutput status → IsErr (importing_into it name text) → LooksOnly old new
   pub imported : IsTrue told → CameToOutput status → Imported app name text old new
-  -- at every moment, however it ends
+  -- at every moment, and no more is written than a rebuild with the contents of the text costs, however it ends
   pub keeps : IsTrue told → ImportKeeps app name text old new
+  pub written : IsTrue told → WritesImport app name text old new
   pub quiet : CameToOutput status → Quiet new
   pub failed : FailsAtThree status old.faults new.faults
 

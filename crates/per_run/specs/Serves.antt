@@ -5,6 +5,7 @@ use Rattle.std.specs.Prelude.{Option, None, Bool, false, IsTrue, IsFalse, codes,
 use Rattle.std.specs.List.{AllByRecursion, flat_map}
 use Rattle.std.specs.Io.KnownBytes.{Appends, Consumes, IsAtEnd, Keeps}
 use Rattle.per_base.specs.Causes.{Rose}
+use Rattle.disk_model.specs.Frame.{Spares}
 use Rattle.disk_model.specs.Image.{Image}
 use Rattle.disk_model.specs.Medium.{Medium, Quiet, Elapses, OnlyReads}
 use Rattle.migrate_fns.specs.Rules.{Rule, Answers}
@@ -12,12 +13,13 @@ use Rattle.command_text.specs.declared.lines.Line.TheVariants as line
 use Rattle.command_text.specs.Grammar.{IsLine}
 use Rattle.command_text.specs.Replies.{reply_text}
 use Rattle.deploy_laws.specs.Apps.{IsCleanApp}
-use Rattle.deploy_rows.specs.Costs.{format_cost}
+use Rattle.deploy_rows.specs.Costs.{format_cost, root_cost}
 use Rattle.run_model.specs.Endings as endings
 use Rattle.run_model.specs.Endings.{Ending, HasCauseOf, HasEnded, bad_line_text, ending_status}
 use Rattle.run_model.specs.Lines.{IsBad, lines_of}
 use Rattle.run_model.specs.Moments.{last_of}
 use Rattle.run_model.specs.Runs.{DiskSide, IsSettled}
+use Rattle.run_model.specs.Runtimes.{IsNoRoot}
 use Rattle.run_model.specs.Turns.{Turn, CountsFailures, worlds_of}
 use Rattle.run_model.specs.Worlds.{after_start, formatted, world_at}
 
@@ -168,13 +170,20 @@ pub record Serve (told : Bool) (rules : List Rule) (answers : Answers) (status :
 abbrev pub HasNoBytes : Image → Type 0
 HasNoBytes image = (file : ℕ) → file < 32768 → image file ≡ []
 
--- eight applications of which nothing is installed, in clean places, and nothing pending; no more was written than the
--- formatting of eight roots costs
+-- The formatting of eight roots and the start on them, however far they came: only slots of roots change, and no more is
+-- written than both cost.
+pub record FormatsWithin (old new : Medium) : Type 0 where
+  pub roots : Spares IsNoRoot old.image new.image
+  pub written : new.written ≤ old.written + (8 * format_cost + 8 * root_cost [])
+
+-- eight applications of which nothing is installed, in clean places, and nothing pending; only slots of roots changed,
+-- and no more was written than the formatting of eight roots costs
 pub record IsFreshlyFormatted (told : Bool) (old start : Medium) : Type 0 where
   pub world : IsTrue told → world_at start.image ≡ formatted
   pub clean : IsTrue told → (app : ℕ) → app < 8 → IsCleanApp app start.image
   pub quiet : Quiet start
   pub passes : start.faults ≡ old.faults
+  pub roots : IsTrue told → Spares IsNoRoot old.image start.image
   pub written : start.written ≤ old.written + 8 * format_cost
   pub time : Elapses old start
 
@@ -184,9 +193,11 @@ pub data IsPreparedDisk {D : Type 0} (told : Bool) (medium : D → Medium) (old 
   formatted_first : (IsTrue told → HasNoBytes (medium old).image) → IsFreshlyFormatted told (medium old) (medium start)
       → IsPreparedDisk told medium old start
 
--- the disk was empty; or it failed while it was looked at, and nothing changed
+-- the disk was empty, and no more than the formatting and the start was done; or it failed while it was looked at, and
+-- nothing changed
 abbrev pub HadNothing : {D : Type 0} → (told : Bool) → (medium : D → Medium) → (old new : D) → Type 0
-HadNothing told medium old new = (IsTrue told → HasNoBytes (medium old).image) ⊎ OnlyReads (medium old) (medium new)
+HadNothing told medium old new = ((IsTrue told → HasNoBytes (medium old).image)
+    × (IsTrue told → FormatsWithin (medium old) (medium new))) ⊎ OnlyReads (medium old) (medium new)
 
 -- A run that stays went over the disk that was prepared; or that was empty or could not be read, and the runtime did
 -- not start: no line was taken and nothing written.

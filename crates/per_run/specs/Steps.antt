@@ -1,11 +1,13 @@
 -- What the parts of a run keep, from line to line and from byte to byte. Of bytes `before` and `now` are what the sink
 -- took before and has taken now, `left_before` and `left_now` what the source has left, each None where nothing is said
 -- of it. `rules` are the converters of values between types, and `answers` what each may answer.
-use Rattle.std.specs.Prelude.{◌≡◌, ◌⊎◌, ◌≤◌, ◌<◌, ◌+◌, ◌*◌, ℕ, List, [], ◌∷◌, ◌++◌, length, take, Option, Bool, false}
+use Rattle.std.specs.Prelude.{◌≡◌, ◌⊎◌, ◌≤◌, ◌<◌, ◌+◌, ◌*◌, ℕ, List, [], ◌∷◌, ◌++◌, length, take, Option, None, Bool}
+use Rattle.std.specs.Prelude.{false}
 use Rattle.std.specs.Prelude.{IsTrue, Result, Ok, Err, IsErrOf, IfErr, count_by, ⊤}
 use Rattle.std.specs.List.{AllByRecursion, flat_map}
 use Rattle.std.specs.Io.KnownBytes.{Appends, Consumes, IsAtEnd}
 use Rattle.per_base.specs.Causes.{Rose}
+use Rattle.disk_model.specs.Frame.{Spares}
 use Rattle.disk_model.specs.Medium.{Medium, Quiet, Elapses}
 use Rattle.migrate_fns.specs.Rules.{Rule, Answers}
 use Rattle.deploy_laws.specs.Apps.{IsCleanApp}
@@ -21,7 +23,7 @@ use Rattle.run_model.specs.Endings.{EndsBy, IsInput}
 use Rattle.run_model.specs.Lines.{Give, IsBad, lines_of}
 use Rattle.run_model.specs.RunLaws.{Going}
 use Rattle.run_model.specs.Runs.{DiskSide}
-use Rattle.run_model.specs.Runtimes.{Memory, IsDoubt, Starts, Stepped, Stopped}
+use Rattle.run_model.specs.Runtimes.{IsDoubt, IsNoRoot, Memory, Starts, Stepped, Stopped}
 use Rattle.run_model.specs.Turns.{Turn, events_of, replies_of, replies_text, IsBlamed, AreBlamed, CountsFailures}
 use Rattle.run_model.specs.Worlds.{Doubt, world_at, after_start, formatted}
 use Rattle.per_run.specs.declared.answering.LineOutcome.{LineOutcome}
@@ -220,10 +222,19 @@ pub record Counted (told : Bool) (rules : List Rule) (answers : Answers) (start 
   pub goes : Goes told rules answers start turns memory medium
   pub tallies : Tallies (replies_of turns) tally
 
+-- the lines begin with these
+abbrev pub BeginWith : (lines all : List (List ℕ)) → Type 0
+BeginWith lines all = (others : List (List ℕ)) × (all ≡ lines ++ others)
+
+-- memory ran out in the handling of the lines `all`, of which no reply is written
+abbrev pub RunsShort : (told : Bool) → List Rule → Answers → (start : Medium) → (all : List (List ℕ)) → Medium → Type 0
+RunsShort told rules answers start all medium = Course told rules answers endings.memory start None all None medium
+
 -- A runtime that started on a disk which was formatted before; no more was written until then than the formatting of
 -- eight roots costs, and the start costs eight roots with no manifest.
 pub record IsServeBegun (told : Bool) (memory : Memory) (old middle new : Medium) : Type 0 where
   pub passes : middle.faults ≡ old.faults
+  pub roots : IsTrue told → Spares IsNoRoot old.image middle.image
   pub written : middle.written ≤ old.written + 8 * format_cost
   pub bare : IsTrue told → roots_cost middle.image 8 ≡ 8 * root_cost []
   pub started : new.faults ≡ middle.faults

@@ -1,15 +1,17 @@
 //! The job that handles a synthetic workload, generated from a number.
 
-ghost use Rattle.std.specs.Prelude.{◌≡◌, ◌⊎◌, ◌≤◌, ◌<◌, ◌+◌, ◌++◌, ◌^◌, ℕ, List, [], ◌∷◌, IfOk, OnOk, IsErrOf, length};
-ghost use Rattle.std.specs.Prelude.{map};
+ghost use Rattle.std.specs.Prelude.{◌≡◌, ◌⊎◌, ◌≤◌, ◌<◌, ◌+◌, ◌++◌, ◌^◌, ℕ, List, [], ◌∷◌, IfOk, IsErrOf, OnOk};
+ghost use Rattle.std.specs.Prelude.{IsTrue, OnErr, length, map};
 ghost use Rattle.disk_model.specs.Medium.{Elapses};
 ghost use Rattle.migrate_fns.specs.Stored.{answers_of, rules_of};
 ghost use Rattle.per_base.specs.Causes.{Rose};
 ghost use Rattle.command_text.specs.declared.replies.Reply.{Reply};
 ghost use Rattle.command_text.specs.Generated.{generated, generated_lines};
+ghost use Rattle.run_model.specs.AppLaws.{AppLaws};
 ghost use Rattle.per_runtime.specs.Memories.{IsRuntime, memory_of};
 ghost use Rattle.per_run.specs.Jobs.{Generates, WritesOutput, summary};
-ghost use Rattle.per_run.specs.Steps.{Counted, Goes, IsServeBegun, Tallies};
+ghost use Rattle.per_run.specs.Serves.{FormatsWithin};
+ghost use Rattle.per_run.specs.Steps.{BeginWith, Counted, Goes, IsServeBegun, RunsShort, Tallies};
 
 use crate::answering::{LineOutcome, answer_line};
 use crate::endings::{DEVICE, DONE, OUT_OF_MEMORY};
@@ -22,6 +24,7 @@ use disk_model::Disk;
 use migrate_fns::Migrations;
 use per_base::Sink;
 use per_runtime::{Runtime, start};
+use run_model::applications_stand;
 use std::alloc::{AllocError, Global};
 
 /// Formats the disk, handles the lines that the number, of at most 100,000, gives, and writes the summary of their
@@ -57,6 +60,8 @@ pub fn start_formatted<D: Disk>(alloc: Global, disk: &mut D) -> Result<Runtime, 
     ensures begun { IfOk result (λ r. (middle : D) × IsServeBegun D.told (memory_of r) (D.medium disk.old)
         (D.medium middle)
         (D.medium disk.new)) }
+    // However it ends, only slots of roots change, and no more is written than the formatting and the start cost.
+    ensures within { IsTrue D.told → FormatsWithin (D.medium disk.old) (D.medium disk.new) }
     // Where the device failed, the count of faults rose.
     ensures cause { IsErrOf result Stop.Device → Rose (D.medium disk.old).faults (D.medium disk.new).faults }
     ensures time { Elapses (D.medium disk.old) (D.medium disk.new) }
@@ -86,6 +91,7 @@ fn generate_on<D: Disk, K: Sink>(
     ensures status { (result ≡ 0) ⊎ ((result ≡ 4) ⊎ ((result ≡ 6) × Rose (K.faults sink.old) (K.faults sink.new))) }
     ensures time { Elapses (D.medium disk.old) (D.medium disk.new) }
 {
+    applications_stand();
     let mut batch = Batch {
         runtime,
         tally: Tally::new(),
@@ -129,6 +135,11 @@ fn handle_all<D: Disk>(
         (D.medium start) [] (memory_of batch.old.runtime) batch.old.tally (D.medium disk.old)
         → Counted D.told (rules_of migrations.now) (answers_of migrations.now) (D.medium start) (generated number)
         (memory_of batch.new.runtime) batch.new.tally (D.medium disk.new)) }
+    // Where memory ran out, it did so between commands or in one.
+    ensures short { OnErr result (AppLaws → (start : D) → Counted D.told (rules_of migrations.now) (answers_of migrations.now)
+        (D.medium start) [] (memory_of batch.old.runtime) batch.old.tally (D.medium disk.old)
+        → RunsShort D.told (rules_of migrations.now) (answers_of migrations.now) (D.medium start)
+        (generated number) (D.medium disk.new)) }
     ensures time { Elapses (D.medium disk.old) (D.medium disk.new) }
 {
     handle_each(alloc, batch, migrations, disk, first_lines().as_slice())?;
@@ -152,6 +163,14 @@ fn handle_each<D: Disk>(
         (memory_of batch.old.runtime) batch.old.tally (D.medium disk.old)
         → Counted D.told (rules_of migrations.now) (answers_of migrations.now) (D.medium start)
         (before ++ map (λ line. line.now) lines.now) (memory_of batch.new.runtime) batch.new.tally
+        (D.medium disk.new)) }
+    // Where memory ran out, it did so between commands or in one, of any lines that begin with those before and these.
+    ensures short { OnErr result (AppLaws → (start : D) (before all : List (List ℕ))
+        → length (before ++ map (λ line. line.now) lines.now) < 2 ^ 32
+        → Counted D.told (rules_of migrations.now) (answers_of migrations.now)
+        (D.medium start) before (memory_of batch.old.runtime) batch.old.tally (D.medium disk.old)
+        → BeginWith (before ++ map (λ line. line.now) lines.now) all
+        → RunsShort D.told (rules_of migrations.now) (answers_of migrations.now) (D.medium start) all
         (D.medium disk.new)) }
     ensures memory { OnOk result (IsRuntime D.told (D.medium disk.new) batch.new.runtime) }
     ensures time { Elapses (D.medium disk.old) (D.medium disk.new) }
@@ -178,6 +197,14 @@ fn handle_generated<D: Disk>(
         (memory_of batch.old.runtime) batch.old.tally (D.medium disk.old)
         → Counted D.told (rules_of migrations.now) (answers_of migrations.now) (D.medium start)
         (before ++ generated_lines number 1 number) (memory_of batch.new.runtime) batch.new.tally
+        (D.medium disk.new)) }
+    // Where memory ran out, it did so between commands or in one, of any lines that begin with those before and these.
+    ensures short { OnErr result (AppLaws → (start : D) (before all : List (List ℕ))
+        → length before + number < 2 ^ 32
+        → Counted D.told (rules_of migrations.now) (answers_of migrations.now)
+        (D.medium start) before (memory_of batch.old.runtime) batch.old.tally (D.medium disk.old)
+        → BeginWith (before ++ generated_lines number 1 number) all
+        → RunsShort D.told (rules_of migrations.now) (answers_of migrations.now) (D.medium start) all
         (D.medium disk.new)) }
     ensures memory { OnOk result (IsRuntime D.told (D.medium disk.new) batch.new.runtime) }
     ensures time { Elapses (D.medium disk.old) (D.medium disk.new) }
@@ -206,6 +233,13 @@ fn handle_one<D: Disk>(
         (memory_of batch.old.runtime) batch.old.tally (D.medium disk.old)
         → Counted D.told (rules_of migrations.now) (answers_of migrations.now) (D.medium start)
         (before ++ line.now ∷ []) (memory_of batch.new.runtime) batch.new.tally (D.medium disk.new)) }
+    // Where memory ran out, it did so between commands or in one, of any lines that begin with those before and this one.
+    ensures short { OnErr result (AppLaws → (start : D) (before all : List (List ℕ))
+        → Counted D.told (rules_of migrations.now) (answers_of migrations.now)
+        (D.medium start) before (memory_of batch.old.runtime) batch.old.tally (D.medium disk.old)
+        → BeginWith (before ++ line.now ∷ []) all
+        → RunsShort D.told (rules_of migrations.now) (answers_of migrations.now) (D.medium start) all
+        (D.medium disk.new)) }
     ensures memory { OnOk result (IsRuntime D.told (D.medium disk.new) batch.new.runtime) }
     ensures time { Elapses (D.medium disk.old) (D.medium disk.new) }
 {

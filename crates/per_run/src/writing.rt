@@ -1,6 +1,6 @@
 //! Whole texts to a sink.
 
-ghost use Rattle.std.specs.Prelude.{◌≡◌, ◌⊎◌, ◌≤◌, ℕ, List, OnOk, OnErr, IfOk};
+ghost use Rattle.std.specs.Prelude.{◌≡◌, ◌⊎◌, ◌≤◌, ℕ, List, OnOk, OnErr, IfOk, IsErr, IsErrOf};
 ghost use Rattle.std.specs.Io.KnownBytes.{Appends};
 ghost use Rattle.per_base.specs.Causes.{HasCause, Rose};
 ghost use Rattle.per_run.specs.Jobs.{IsOutputWritten, WritesOutput, WroteProperPrefix};
@@ -30,10 +30,12 @@ pub fn write_all<K: Sink>(sink: &mut K, text: &[u8]) -> Result<(), Failed>
 
 /// Hands a text that was made to the sink, where there was memory for it.
 pub fn write_made<K: Sink>(sink: &mut K, made: Result<Vec<u8>, AllocError>) -> Result<(), Ending>
-    // Of a text that was made the sink took all, or it failed, only where its count of failures rose; else nothing.
+    // Of a text that was made the sink took all, or it failed, only where its count of failures rose; else nothing, and
+    // only then memory ran out.
     ensures puts { (text : List ℕ) → IfOk made (λ bytes. bytes.items ≡ text)
         → PutsOutput text (K.written sink.old) (K.written sink.new) result }
     ensures blames { Blames (K.faults sink.old) (K.faults sink.new) result }
+    ensures memory { IsErrOf result Ending.OutOfMemory → IsErr made }
 {
     match made {
         Ok(text) => write_text(sink, text.as_slice()),
@@ -43,9 +45,11 @@ pub fn write_made<K: Sink>(sink: &mut K, made: Result<Vec<u8>, AllocError>) -> R
 
 /// Hands a text to the sink.
 pub fn write_text<K: Sink>(sink: &mut K, text: &[u8]) -> Result<(), Ending>
-    // The sink took the whole text, or it failed and took less, only where its count of failures rose.
+    // The sink took the whole text, or it failed and took less, only where its count of failures rose. Memory does not
+    // run out.
     ensures puts { PutsOutput text.now (K.written sink.old) (K.written sink.new) result }
     ensures blames { Blames (K.faults sink.old) (K.faults sink.new) result }
+    ensures never { ¬ (IsErrOf result Ending.OutOfMemory) }
 {
     match write_all(sink, text) {
         Ok(()) => Ok(()),
@@ -73,10 +77,11 @@ pub fn write_output<K: Sink>(sink: &mut K, text: &[u8], done: u8) -> u8
 pub fn write_made_output<K: Sink>(sink: &mut K, made: Result<Vec<u8>, AllocError>, done: u8) -> u8
     requires { IsOutputWritten done }
     // What the sink took is by the status all of the text, less, or nothing; 6 comes only where the count of its
-    // failures rose.
+    // failures rose, and 4 only where no text was made.
     ensures output { (text : List ℕ) → IfOk made (λ bytes. bytes.items ≡ text)
         → WritesOutput result (K.written sink.old) (K.written sink.new) text }
     ensures status { (result ≡ done) ⊎ ((result ≡ 4) ⊎ ((result ≡ 6) × Rose (K.faults sink.old) (K.faults sink.new))) }
+    ensures memory { result ≡ 4 → IsErr made }
 {
     match made {
         Ok(text) => write_output(sink, text.as_slice(), done),

@@ -105,7 +105,7 @@ no_opening : cost [] (found_so in_three (Corrupt None [])) (call.OpenKvs fav) �
 unfolding computed
 no_opening = refl
 
--- made anew with one key in three copies
+-- rebuilt with one key in three copies
 a_recovery : cost [] (in_copies (Good (3 ∷ 9 ∷ 0 ∷ [])) (1 ∷ [])) (call.RecoverStorage fav) ≡ 3 * (256 + 1048664)
 unfolding computed
 a_recovery = refl

@@ -9,6 +9,7 @@ returns-in-Ok-clause-job g c = record {
   world = λ tells done. is_formatted _ (c.in-Ok.ensures.apps tells);
   clean = λ tells done. c.in-Ok.ensures.clean tells;
   quiet = λ done. c.in-Ok.ensures.quiet;
+  roots = c.format_all.ensures.outside.at_the_end;
   written = c.format_all.ensures.written;
   failed = λ unfailed. c.in-Ok.ensures.passes;
 }
@@ -17,7 +18,8 @@ pub returns-in-Ok-clause-status : goal.returns-in-Ok-clause-status
 returns-in-Ok-clause-status g c = ⊎_elim (λ none. inl none) (λ six. inr (inr (inr six))) c.write_output.ensures.status
 
 pub returns-in-Err-Device-clause-job : goal.returns-in-Err-Device-clause-job
-returns-in-Err-Device-clause-job g c = formats_none _ _ _ _ _ (inl refl) c.format_all.ensures.written
+returns-in-Err-Device-clause-job g c = formats_none _ _ _ _ _ (inl refl)
+    c.format_all.ensures.outside.at_the_end c.format_all.ensures.written
     (λ unfailed. absurd (unfailed refl))
 
 pub returns-in-Err-Device-clause-status : goal.returns-in-Err-Device-clause-status
@@ -25,7 +27,8 @@ returns-in-Err-Device-clause-status g c = inr (inr (inl
     (refl, c.format_all.ensures.cause (c.in-Err-Device.is ∙ ap Err c.in-Err-Device.field-0-is))))
 
 pub returns-in-Err-OutOfMemory-clause-job : goal.returns-in-Err-OutOfMemory-clause-job
-returns-in-Err-OutOfMemory-clause-job g c = formats_none _ _ _ _ _ (inr refl) c.format_all.ensures.written
+returns-in-Err-OutOfMemory-clause-job g c = formats_none _ _ _ _ _ (inr refl)
+    c.format_all.ensures.outside.at_the_end c.format_all.ensures.written
     (λ unfailed. c.format_all.ensures.fed (c.in-Err-OutOfMemory.is ∙ ap Err c.in-Err-OutOfMemory.field-0-is))
 
 pub returns-in-Err-OutOfMemory-clause-status : goal.returns-in-Err-OutOfMemory-clause-status

@@ -1,7 +1,6 @@
 -- All lines are handled and counted; or memory ran out.
-use Rattle.std.proofs.Common.{refl, inr}
 use Rattle.run_model.specs.Turns.{replies_of}
-use Rattle.per_run.proofs.Fresh.{counted_none, counts_up, generates_all, generates_none}
+use Rattle.per_run.proofs.Fresh.{counted_none, generates_all, generates_short}
 use Rattle.per_run.proofs.generating.generate_on.Goals as goal
 
 pub returns-in-Ok-clause-job : goal.returns-in-Ok-clause-job
@@ -12,4 +11,5 @@ returns-in-Ok-clause-job g c = λ old middle begun.
 
 pub returns-clause-job : goal.returns-clause-job
 returns-clause-job g c = λ old middle begun.
-    generates_none _ _ _ _ _ _ _ _ (inr refl) (counts_up begun c.handle_all.ensures.time.faults)
+    generates_short _ _ _ c.args.number _ _ _ _ _ _ begun
+    (c.in-Err.ensures.short c.applications_stand.ensures middle (counted_none _ _ _ _ _ _ _ _ begun c.new.ensures))

@@ -1,5 +1,6 @@
 -- The runtime starts after the formatting.
 use Rattle.std.proofs.Common.{[], Result, Ok, Err, IfOk, OnOk, ℕ, ◌<◌, ◌≤◌, ◌+◌, ◌*◌, ◌≡◌, Bool, IsTrue}
+use Rattle.disk_model.specs.Frame.{Spares}
 use Rattle.disk_model.specs.Laws.{elapses_on, rose_before}
 use Rattle.disk_model.specs.Medium.{Medium, Quiet, Elapses}
 use Rattle.deploy_rows.specs.Costs.{format_cost, root_cost}
@@ -8,14 +9,16 @@ use Rattle.deploy.specs.declared.errors.Stop.{Stop}
 use Rattle.deploy_laws.specs.Apps.{IsCleanApp}
 use Rattle.per_runtime.specs.Memories.{memory_of}
 use Rattle.per_runtime.specs.declared.runtime.Runtime.{Runtime}
-use Rattle.run_model.specs.Runtimes.{Starts}
+use Rattle.run_model.specs.Runtimes.{IsNoRoot, Starts}
 use Rattle.run_model.specs.Worlds.{formatted, world_at}
 use Rattle.per_run.specs.Steps.{IsServeBegun}
-use Rattle.per_run.proofs.Fresh.{bare_roots, is_formatted}
+use Rattle.per_run.proofs.Fresh.{bare_roots, formats_on, formats_short, is_formatted}
 use Rattle.per_run.proofs.generating.start_formatted.Goals as goal
 
 begun_ok : {D : Type 0} (medium : D → Medium) (told : Bool) (r : Result Runtime Stop) (old middle new : D)
-    → (medium middle).faults ≡ (medium old).faults → (medium middle).written ≤ (medium old).written + 8 * format_cost
+    → (medium middle).faults ≡ (medium old).faults
+    → (IsTrue told → Spares IsNoRoot (medium old).image (medium middle).image)
+    → (medium middle).written ≤ (medium old).written + 8 * format_cost
     → OnOk r ((medium new).faults ≡ (medium middle).faults)
     → (IsTrue told → world_at (medium middle).image ≡ formatted)
     → (IsTrue told → roots_cost (medium middle).image 8 ≡ 8 * root_cost [])
@@ -24,10 +27,11 @@ begun_ok : {D : Type 0} (medium : D → Medium) (told : Bool) (r : Result Runtim
     → (IsTrue told → IfOk r (λ x. Starts (memory_of x) (medium middle) (medium new)))
     → Elapses (medium middle) (medium new)
     → IfOk r (λ x. (m : D) × IsServeBegun told (memory_of x) (medium old) (medium m) (medium new))
-begun_ok medium told (Ok x) old middle new passes written started world bare clean quiet formats starts time = (
+begun_ok medium told (Ok x) old middle new passes roots written started world bare clean quiet formats starts time = (
   middle,
   record {
     passes = passes;
+    roots = roots;
     written = written;
     started = started;
     bare = bare;
@@ -39,14 +43,24 @@ begun_ok medium told (Ok x) old middle new passes written started world bare cle
     time = time;
   },
 )
-begun_ok medium told (Err e) old middle new passes written started world bare clean quiet formats starts time = tt
+begun_ok medium told (Err e) old middle new passes roots written started world bare clean quiet formats starts time = tt
 
 pub returns-in-Ok-clause-begun : goal.returns-in-Ok-clause-begun
 returns-in-Ok-clause-begun g c = begun_ok g.D.Disk.medium g.D.Disk.told c.start.result c.args.disk.now
-    c.format_all.new.disk c.start.new.disk c.in-Ok.ensures.passes c.format_all.ensures.written
+    c.format_all.new.disk c.start.new.disk c.in-Ok.ensures.passes
+    c.format_all.ensures.outside.at_the_end c.format_all.ensures.written
     c.start.ensures.passes (λ tells. is_formatted _ (c.in-Ok.ensures.apps tells))
     (λ tells. bare_roots c.manifests_stay.ensures.absent _ (c.in-Ok.ensures.apps tells)) c.in-Ok.ensures.clean
     c.in-Ok.ensures.quiet c.format_all.ensures.time c.start.ensures.starts c.start.ensures.time
+
+pub returns-in-Ok-clause-within : goal.returns-in-Ok-clause-within
+returns-in-Ok-clause-within g c = λ tells. formats_on (c.format_all.ensures.outside.at_the_end tells)
+    c.format_all.ensures.written (bare_roots c.manifests_stay.ensures.absent _ (c.in-Ok.ensures.apps tells))
+    (c.start.ensures.stopped tells)
+
+pub returns-in-Err-clause-within : goal.returns-in-Err-clause-within
+returns-in-Err-clause-within g c = λ tells. formats_short (c.format_all.ensures.outside.at_the_end tells)
+    c.format_all.ensures.written
 
 pub returns-in-Ok-clause-cause : goal.returns-in-Ok-clause-cause
 returns-in-Ok-clause-cause g c = λ failed. rose_before _ _ _ c.format_all.ensures.time.faults

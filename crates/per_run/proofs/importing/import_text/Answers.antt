@@ -19,12 +19,14 @@ returns-in-Ok-clause-made g c = record {
       (importing_into c.in-Ok.ensures.refused.0 c.args.name.now c.args.text.now) c.in-Ok.ensures.refused.2 is);
   imported = λ tells done. c.in-Ok.ensures.imported tells;
   keeps = c.import.ensures.keeps;
+  written = c.import.ensures.written;
   quiet = λ done. c.in-Ok.ensures.quiet;
   failed = λ unfailed. c.in-Ok.ensures.passes;
 }
 
 pub returns-in-Err-Device-clause-made : goal.returns-in-Err-Device-clause-made
 returns-in-Err-Device-clause-made g c = makes_none _ _ _ _ _ _ _ _ (inl refl) c.import.ensures.keeps
+    c.import.ensures.written
     (λ unfailed. absurd (unfailed refl))
 
 pub returns-in-Err-Device-clause-status : goal.returns-in-Err-Device-clause-status
@@ -35,4 +37,5 @@ returns-in-Err-Device-clause-status g c = inr (inr (inl (
 
 pub returns-in-Err-OutOfMemory-clause-made : goal.returns-in-Err-OutOfMemory-clause-made
 returns-in-Err-OutOfMemory-clause-made g c = makes_none _ _ _ _ _ _ _ _ (inr refl) c.import.ensures.keeps
+    c.import.ensures.written
     (λ unfailed. c.import.ensures.fed (c.in-Err-OutOfMemory.is ∙ ap Err c.in-Err-OutOfMemory.field-0-is))

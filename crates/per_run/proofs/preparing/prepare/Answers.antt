@@ -1,6 +1,7 @@
 -- The runtime starts on the disk as it was, or on one that was formatted.
 use Rattle.std.proofs.Common.{inl, inr}
 use Rattle.disk_model.specs.Laws.{elapses_on, rose_before}
+use Rattle.per_run.proofs.Fresh.{formats_later}
 use Rattle.per_run.proofs.Prepared.{keeps_on, on_err, readied_as, readied_first, says_false, says_true}
 use Rattle.per_run.proofs.preparing.prepare.Goals as goal
 
@@ -13,7 +14,10 @@ returns-in-Ok-true-clause-readied g c =
 
 pub returns-in-Ok-true-clause-unready : goal.returns-in-Ok-true-clause-unready
 returns-in-Ok-true-clause-unready g c = on_err c.start_formatted.result
-    (inr (inl (λ tells. says_true _ _ c.in-Ok-true.field-0-test (c.in-Ok-true.ensures.says tells))))
+    (inr (inl (
+      λ tells. says_true _ _ c.in-Ok-true.field-0-test (c.in-Ok-true.ensures.says tells),
+      λ tells. formats_later c.is_blank.ensures.reads (c.start_formatted.ensures.within tells),
+    )))
 
 pub returns-in-Ok-true-clause-cause : goal.returns-in-Ok-true-clause-cause
 returns-in-Ok-true-clause-cause g c = λ failed.
