@@ -56,7 +56,7 @@ returns-in-Ok-clause-begun g c = begun_ok g.D.Disk.medium g.D.Disk.told c.start.
 pub returns-in-Ok-clause-within : goal.returns-in-Ok-clause-within
 returns-in-Ok-clause-within g c = λ tells. formats_on (c.format_all.ensures.outside.at_the_end tells)
     c.format_all.ensures.written (bare_roots c.manifests_stay.ensures.absent _ (c.in-Ok.ensures.apps tells))
-    (c.start.ensures.stopped tells)
+    (c.start.ensures.stopped tells).roots (c.start.ensures.stopped tells).written
 
 pub returns-in-Err-clause-within : goal.returns-in-Err-clause-within
 returns-in-Err-clause-within g c = λ tells. formats_short (c.format_all.ensures.outside.at_the_end tells)
