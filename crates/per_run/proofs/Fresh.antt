@@ -77,26 +77,29 @@ pub spares_on : {spared : ℕ → Type 0} {a b c : Image} → Spares spared a b 
 spares_on first later file is = later file is ∙ first file is
 
 -- a formatting that did not end
-pub formats_short : {old new : Medium} → Spares IsNoRoot old.image new.image
+pub formats_short : (old new : Medium) → Spares IsNoRoot old.image new.image
     → new.written ≤ old.written + 8 * format_cost → FormatsWithin (bytes_now old) (bytes_now new)
-formats_short roots written = record { roots = roots; written = omega (arith, written) }
+formats_short old new roots written = record { roots = roots; written = omega (arith, written) }
 
 -- one that did, and the start after it
-pub formats_on : {old middle : Medium} {new : DiskBytes} → Spares IsNoRoot old.image middle.image
+pub formats_on : (old middle : Medium) (new : DiskBytes) → Spares IsNoRoot old.image middle.image
     → middle.written ≤ old.written + 8 * format_cost → roots_cost middle.image 8 ≡ 8 * root_cost []
     → Spares IsNoRoot middle.image new.image → new.written ≤ middle.written + roots_cost middle.image 8
     → FormatsWithin (bytes_now old) new
-formats_on {old} {middle} {new} roots written bare started costs = record {
+formats_on old middle new roots written bare started costs = record {
   roots = spares_on roots started;
   written = within middle.image old.written middle.written new.written bare written costs;
 }
 
 -- one that was looked for first
-pub formats_later : {old middle new : Medium} → OnlyReads old middle
+pub formats_later : (old middle new : Medium) → OnlyReads old middle
     → FormatsWithin (bytes_now middle) (bytes_now new) → FormatsWithin (bytes_now old) (bytes_now new)
-formats_later {old} {middle} {new} reads formats = record {
+formats_later old middle new reads formats = record {
   roots = λ file is. formats.roots file is ∙ ap (λ (i : Image). i file) reads.image;
-  written = let same = reads.written in let cost = formats.written in omega (arith, same, cost);
+  written =
+      let same : middle.written ≡ old.written = reads.written in
+      let cost : new.written ≤ middle.written + (8 * format_cost + 8 * root_cost []) = formats.written in
+      omega (arith, same, cost);
 }
 
 -- ---- jobs that did not come to their output
@@ -211,7 +214,8 @@ generates_short told rules answers n now memory old middle begun new b course = 
       (side tells).follow;
   bounded = λ tells. record {
     begun = (side tells).begun;
-    starts = formats_on (b.roots tells) b.written (b.bare tells) (side tells).starts.roots (side tells).starts.written;
+    starts = formats_on old middle (side tells).begun (b.roots tells) b.written (b.bare tells)
+        (side tells).starts.roots (side tells).starts.written;
     bounded = subst (λ (w : World). AreBounded rules answers w (side tells).begun course.turns) (here tells)
         (side tells).bounded;
     held = λ done. absurd (not_done 4 (inr refl) done);
@@ -252,7 +256,8 @@ generates_all told rules answers n status before now memory after tally old midd
   bounded = λ tells.
       let g : IsGoing rules answers middle counted.turns after new = counted.goes.disk tells in record {
         begun = g.2.begun;
-        starts = formats_on (b.roots tells) b.written (b.bare tells) g.2.starts.roots g.2.starts.written;
+        starts = formats_on old middle g.2.begun (b.roots tells) b.written (b.bare tells) g.2.starts.roots
+            g.2.starts.written;
         bounded = subst (λ (w : World). AreBounded rules answers w g.2.begun counted.turns) (here tells) g.2.bounded;
         held = λ done. g.2.held;
         left = inl g.2.held;
