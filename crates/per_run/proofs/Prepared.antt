@@ -112,6 +112,7 @@ readied_first told medium (Ok x) old mid new blank first reads same begun = reco
     passes = begun.1.passes ∙ same;
     roots = λ tells file is. begun.1.roots tells file is ∙ ap (λ (i : Image). i file) reads.image;
     written = let formats = begun.1.written in let nothing = reads.written in omega (arith, formats, nothing);
+    bare = begun.1.bare;
     time = elapses_on first begun.1.formats;
   });
   passes = begun.1.started;
