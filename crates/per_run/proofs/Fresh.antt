@@ -1,6 +1,6 @@
 -- Disks that were formatted, and jobs that did not come to their output.
-use Rattle.std.proofs.Common.{ℕ, zero, suc, List, [], ◌∷◌, replicate, ◌≡◌, ◌≤◌, ◌<◌, ◌+◌, ◌*◌, ◌⊎◌, inl, inr, refl, sym, ◌∙◌}
-use Rattle.std.proofs.Common.{ap, ap₂, subst, arith, Option, None, Bool, IsTrue}
+use Rattle.std.proofs.Common.{ℕ, zero, suc, List, [], ◌∷◌, replicate, ◌≡◌, ◌≤◌, ◌<◌, ◌+◌, ◌*◌, ◌⊎◌, inl, inr, refl}
+use Rattle.std.proofs.Common.{sym, ◌∙◌, ap, ap₂, append-nil, subst, arith, Option, None, Bool, IsTrue}
 use Rattle.disk_model.specs.Frame.{Spares}
 use Rattle.disk_model.specs.Image.{Image}
 use Rattle.disk_model.specs.Medium.{Medium, OnlyReads}
@@ -13,16 +13,16 @@ use Rattle.deploy_rows.specs.Rows.{empty_app}
 use Rattle.run_model.specs.Bounds.{AreBounded, bytes_after}
 use Rattle.run_model.specs.Costs.{roots_cost}
 use Rattle.run_model.specs.Endings as endings
-use Rattle.run_model.specs.Lines.{Give}
+use Rattle.run_model.specs.Endings.{AfterSome, InReply}
 use Rattle.run_model.specs.Moments.{last_of}
 use Rattle.run_model.specs.RunLaws.{ends_settled}
 use Rattle.run_model.specs.Runs as runs
 use Rattle.run_model.specs.Runs.{DiskSide, IsSettled, Progress, between, starting}
-use Rattle.run_model.specs.Runtimes.{IsNoRoot, Memory, StartKeeps}
-use Rattle.run_model.specs.Turns.{AreBlamed, DiskBytes, Follow, Turn, bytes_now, events_of, replies_of, worlds_of}
+use Rattle.run_model.specs.Runtimes.{IsNoRoot, Memory}
+use Rattle.run_model.specs.Turns.{AreBlamed, DiskBytes, Follow, Turn, bytes_now, replies_of, worlds_of}
 use Rattle.run_model.specs.Worlds.{Application, Disks, World, after_start, all_resting, formatted, resting, world_at}
 use Rattle.per_run.specs.declared.tally.Tally.{Tally}
-use Rattle.per_run.specs.Jobs.{FailsAtThree, Formats, Generates, IsLeftBy, WritesOutput, summary}
+use Rattle.per_run.specs.Jobs.{BeginWith, FailsAtThree, Formats, Generates, IsLeftBy, WritesOutput, summary}
 use Rattle.per_run.specs.Serves.{FormatsWithin}
 use Rattle.per_run.specs.Steps.{Counted, IsGoing, IsServeBegun, RunsShort, Tallies}
 use Rattle.per_run.proofs.Courses.{counts_whole}
@@ -77,24 +77,29 @@ pub spares_on : {spared : ℕ → Type 0} {a b c : Image} → Spares spared a b 
 spares_on first later file is = later file is ∙ first file is
 
 -- a formatting that did not end
-pub formats_short : {old new : Medium} → Spares IsNoRoot old.image new.image
-    → new.written ≤ old.written + 8 * format_cost → FormatsWithin old new
-formats_short roots written = record { roots = roots; written = omega (arith, written) }
+pub formats_short : (old new : Medium) → Spares IsNoRoot old.image new.image
+    → new.written ≤ old.written + 8 * format_cost → FormatsWithin (bytes_now old) (bytes_now new)
+formats_short old new roots written = record { roots = roots; written = omega (arith, written) }
 
 -- one that did, and the start after it
-pub formats_on : {old middle new : Medium} → Spares IsNoRoot old.image middle.image
+pub formats_on : (old middle : Medium) (new : DiskBytes) → Spares IsNoRoot old.image middle.image
     → middle.written ≤ old.written + 8 * format_cost → roots_cost middle.image 8 ≡ 8 * root_cost []
-    → StartKeeps middle new → FormatsWithin old new
-formats_on {old} {middle} {new} roots written bare keeps = record {
-  roots = spares_on roots keeps.roots;
-  written = within middle.image old.written middle.written new.written bare written keeps.written;
+    → Spares IsNoRoot middle.image new.image → new.written ≤ middle.written + roots_cost middle.image 8
+    → FormatsWithin (bytes_now old) new
+formats_on old middle new roots written bare started costs = record {
+  roots = spares_on roots started;
+  written = within middle.image old.written middle.written new.written bare written costs;
 }
 
 -- one that was looked for first
-pub formats_later : {old middle new : Medium} → OnlyReads old middle → FormatsWithin middle new → FormatsWithin old new
-formats_later {old} {middle} {new} reads formats = record {
+pub formats_later : (old middle new : Medium) → OnlyReads old middle
+    → FormatsWithin (bytes_now middle) (bytes_now new) → FormatsWithin (bytes_now old) (bytes_now new)
+formats_later old middle new reads formats = record {
   roots = λ file is. formats.roots file is ∙ ap (λ (i : Image). i file) reads.image;
-  written = let same = reads.written in let cost = formats.written in omega (arith, same, cost);
+  written =
+      let same : middle.written ≡ old.written = reads.written in
+      let cost : new.written ≤ middle.written + (8 * format_cost + 8 * root_cost []) = formats.written in
+      omega (arith, same, cost);
 }
 
 -- ---- jobs that did not come to their output
@@ -116,10 +121,14 @@ formats_none told status now old new is roots cost failed = record {
 -- the formatting or the start did not end
 pub generates_none : (told : Bool) (rules : List Rule) (answers : Answers) (n status : ℕ) (now : Option (List ℕ))
     (old new : Medium) → (status ≡ 3) ⊎ (status ≡ 4) → old.faults ≤ new.faults
-    → (IsTrue told → FormatsWithin old new) → Generates told rules answers n status now now old new
+    → (IsTrue told → FormatsWithin (bytes_now old) (bytes_now new))
+    → Generates told rules answers n status now now old new
 generates_none told rules answers n status now old new is later formats = record {
+  lines = [];
+  first = (generated n, refl);
+  whole = λ done. absurd (not_done status is done);
   turns = [];
-  gives = λ done. absurd (not_done status is done);
+  gives = refl;
   output = writes_none status now _ is;
   failures = record {
     last = old.faults;
@@ -130,8 +139,7 @@ generates_none told rules answers n status now old new is later formats = record
   follow = λ tells. tt;
   bounded = λ tells. record {
     begun = bytes_now new;
-    roots = (formats tells).roots;
-    starts = (formats tells).written;
+    starts = formats tells;
     bounded = tt;
     held = λ done. refl;
     left = inl refl;
@@ -170,22 +178,31 @@ counts_up {now = now} begun later = subst (λ (n : ℕ). n ≤ now) (begun.start
 
 -- what a run that memory ended left after its commands
 left_by : (rules : List Rule) (answers : Answers) (w : World) (lines all : List (List ℕ)) (turns : List Turn)
-    (reached : List World) (next : Disks) (begun held : DiskBytes) → Give lines (events_of turns)
+    (reached : List World) (next : Disks) (begun held : DiskBytes)
     → Progress rules answers endings.memory w lines all turns None None reached next begun held
-    → IsLeftBy rules answers w all turns (bytes_after begun turns) held
-left_by rules answers w lines all turns reached next begun held gives
+    → IsLeftBy rules answers w lines all turns (bytes_after begun turns) held
+left_by rules answers w lines all turns reached next begun held
     (starting unbegun no_line no_lines none nothing still same) = absurd (unbegun tt)
-left_by rules answers w lines all turns reached next begun held gives (between begins through still same) = inl same
-left_by rules answers w lines all turns reached next begun held gives (runs.within begins open_end wrote through it) =
-    inr (lines, gives, next, it)
+left_by rules answers w lines all turns reached next begun held (between begins through still same) = inl same
+left_by rules answers w lines all turns reached next begun held (runs.within begins open_end wrote through it) =
+    inr (next, it)
+
+-- the lines that it handled are the first
+first_lines : (lines all : List (List ℕ)) (turns : List Turn)
+    → AfterSome lines all turns None None ⊎ InReply 0 lines all turns None None → BeginWith lines all
+first_lines lines all turns (inl after) = (after.others, after.next)
+first_lines lines all turns (inr reply) = (reply.others, reply.next)
 
 -- memory ran out after the start
 pub generates_short : (told : Bool) (rules : List Rule) (answers : Answers) (n : ℕ) (now : Option (List ℕ))
     (memory : Memory) (old middle begun new : Medium) → IsServeBegun told memory old middle begun
     → RunsShort told rules answers middle (generated n) new → Generates told rules answers n 4 now now old new
 generates_short told rules answers n now memory old middle begun new b course = record {
+  lines = course.lines;
+  first = first_lines course.lines (generated n) course.turns course.ends;
+  whole = λ done. absurd (not_done 4 (inr refl) done);
   turns = course.turns;
-  gives = λ done. absurd (not_done 4 (inr refl) done);
+  gives = course.gives;
   output = writes_none 4 now _ (inr refl);
   failures = record {
     last = course.failures.last;
@@ -197,16 +214,15 @@ generates_short told rules answers n now memory old middle begun new b course = 
       (side tells).follow;
   bounded = λ tells. record {
     begun = (side tells).begun;
-    roots = spares_on (b.roots tells) (side tells).starts.roots;
-    starts = within middle.image old.written middle.written (side tells).begun.written (b.bare tells) b.written
-        (side tells).starts.written;
+    starts = formats_on old middle (side tells).begun (b.roots tells) b.written (b.bare tells)
+        (side tells).starts.roots (side tells).starts.written;
     bounded = subst (λ (w : World). AreBounded rules answers w (side tells).begun course.turns) (here tells)
         (side tells).bounded;
     held = λ done. absurd (not_done 4 (inr refl) done);
-    left = subst (λ (w : World). IsLeftBy rules answers w (generated n) course.turns
+    left = subst (λ (w : World). IsLeftBy rules answers w course.lines (generated n) course.turns
         (bytes_after (side tells).begun course.turns) (bytes_now new)) (here tells)
         (left_by rules answers (after_start (world_at middle.image)) course.lines (generated n) course.turns
-        (side tells).reached (side tells).next (side tells).begun (bytes_now new) course.gives (side tells).progress);
+        (side tells).reached (side tells).next (side tells).begun (bytes_now new) (side tells).progress);
   };
   settled = λ tells done. absurd (not_done 4 (inr refl) done);
   clean = λ tells done. absurd (not_done 4 (inr refl) done);
@@ -226,8 +242,11 @@ pub generates_all : (told : Bool) (rules : List Rule) (answers : Answers) (n sta
     → WritesOutput status before now (summary (n + 5) (replies_of counted.turns))
     → Generates told rules answers n status before now old new
 generates_all told rules answers n status before now memory after tally old middle begun new b counted writes = record {
+  lines = generated n;
+  first = ([], sym (append-nil (generated n)));
+  whole = λ done. refl;
   turns = counted.turns;
-  gives = λ done. counted.gives;
+  gives = counted.gives;
   output = subst (λ (k : ℕ). WritesOutput status before now (summary k (replies_of counted.turns))) (sym (length_all n))
       writes;
   failures = counts_whole (subst (λ (n : ℕ). AreBlamed n counted.turns new.faults) b.passes counted.goes.blamed);
@@ -237,8 +256,7 @@ generates_all told rules answers n status before now memory after tally old midd
   bounded = λ tells.
       let g : IsGoing rules answers middle counted.turns after new = counted.goes.disk tells in record {
         begun = g.2.begun;
-        roots = spares_on (b.roots tells) g.2.starts.roots;
-        starts = within middle.image old.written middle.written g.2.begun.written (b.bare tells) b.written
+        starts = formats_on old middle g.2.begun (b.roots tells) b.written (b.bare tells) g.2.starts.roots
             g.2.starts.written;
         bounded = subst (λ (w : World). AreBounded rules answers w g.2.begun counted.turns) (here tells) g.2.bounded;
         held = λ done. g.2.held;

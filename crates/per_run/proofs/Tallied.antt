@@ -1,7 +1,8 @@
 -- One reply more is counted; and the lines of a number, one after the other.
 use Rattle.std.proofs.Common.{ℕ, zero, suc, List, [], ◌∷◌, ◌++◌, length, map, ◌≡◌, ◌≤◌, ◌<◌, ◌+◌, ◌-◌, ◌^◌, ◌&&◌, not}
 use Rattle.std.proofs.Common.{min, cond, refl, sym, ◌∙◌, ap, ap₂, subst, arith, Option, Some, None, Bool, true, false}
-use Rattle.std.proofs.Common.{count_by, inl, ◌⊎◌, append-nil, append_assoc, drop, length-append, get_or, take, add-one, Bor}
+use Rattle.std.proofs.Common.{count_by, inl, ◌⊎◌, append-nil, append_assoc, drop, length-append, get_or, take, add-one}
+use Rattle.std.proofs.Common.{Bor}
 use Rattle.std.specs.Option.{option_or}
 use Rattle.std.proofs.lemmas.List.Sums.{sum_by_push, count_by-le-length}
 use Rattle.std.proofs.Math.Seq.{take-suc}
@@ -20,10 +21,9 @@ use Rattle.run_model.specs.Worlds.{World}
 use Rattle.per_run.specs.declared.answering.LineOutcome.{LineOutcome}
 use Rattle.per_run.specs.declared.answering.LineOutcome.TheVariants as outcome
 use Rattle.per_run.specs.declared.tally.Tally.{Tally}
-use Rattle.per_run.specs.Jobs.{done_in, error_in, number_in, is_done, is_error, is_other, size_given, summary}
-use Rattle.per_run.specs.Jobs.{summary_text}
-use Rattle.per_run.specs.Steps.{BeginWith, Counted, Goes, Handled, IsLineAnswered, IsLineOutcome, IsStopped, RunsShort}
-use Rattle.per_run.specs.Steps.{Tallies}
+use Rattle.per_run.specs.Jobs.{BeginWith, done_in, error_in, number_in, is_done, is_error, is_other, size_given}
+use Rattle.per_run.specs.Jobs.{summary, summary_text}
+use Rattle.per_run.specs.Steps.{Counted, Goes, Handled, IsLineAnswered, IsLineOutcome, IsStopped, RunsShort, Tallies}
 use Rattle.per_run.proofs.Courses.{course_memory, course_short}
 use Rattle.per_run.proofs.Gives.{give_turn, replies_on}
 use Rattle.per_run.proofs.Goes.{goes_on}

@@ -19,7 +19,7 @@ use Rattle.command_text.specs.declared.replies.Reply.{Reply}
 use Rattle.command_text.specs.Generated.{generated}
 use Rattle.command_text.specs.Replies.{answer_text, number_or_dash}
 use Rattle.deploy_laws.specs.Apps.{App, IsCleanApp}
-use Rattle.deploy_rows.specs.Costs.{format_cost, root_cost}
+use Rattle.deploy_rows.specs.Costs.{format_cost}
 use Rattle.run_model.specs.Bounds.{AreBounded, bytes_after}
 use Rattle.run_model.specs.Endings.{FailureCounts}
 use Rattle.run_model.specs.Lines.{Give}
@@ -44,7 +44,7 @@ use Rattle.per_backup.specs.Clauses.{ImportKeeps, Imported, IsAppSeen, WritesImp
 use Rattle.per_run.specs.declared.words.JobKind.{JobKind}
 use Rattle.per_run.specs.declared.words.JobKind.TheVariants.{Run, Serve, Format, Generate, Audit, Listing, Export}
 use Rattle.per_run.specs.declared.words.JobKind.TheVariants.{Import, RecoverRoot}
-use Rattle.per_run.specs.Serves.{Serves}
+use Rattle.per_run.specs.Serves.{FormatsWithin, Serves}
 use Rattle.per_run.specs.Words.{reads_input}
 
 -- ---- the output of a job that writes once
@@ -129,36 +129,42 @@ abbrev pub summary : (lines : ℕ) → List Reply → List ℕ
 summary lines rs = summary_text lines (count_by is_done rs) (count_by is_other rs) (count_by is_error rs)
     (size_given rs)
 
--- after these commands nothing was written; or memory ran out in the command of the next line, of the lines `all`, and
--- it was in progress: it began at the bytes `left`
-abbrev pub IsLeftBy : List Rule → Answers → (start : World) → (all : List (List ℕ)) → List Turn → (left now : DiskBytes)
-    → Type 0
-IsLeftBy rules answers start all turns left now = (now ≡ left)
-    ⊎ ((lines : List (List ℕ)) × Give lines (events_of turns) × (next : Disks)
-    × IsInProgress rules answers (last_of start (worlds_of turns)) lines all next left now)
+-- the lines begin with these
+abbrev pub BeginWith : (lines all : List (List ℕ)) → Type 0
+BeginWith lines all = (others : List (List ℕ)) × (all ≡ lines ++ others)
+
+-- after these commands nothing was written; or memory ran out in the command of the next line after `lines`, of the
+-- lines `all`, and it was in progress: it began at the bytes `left`
+abbrev pub IsLeftBy : List Rule → Answers → (start : World) → (lines all : List (List ℕ)) → List Turn
+    → (left now : DiskBytes) → Type 0
+IsLeftBy rules answers start lines all turns left now = (now ≡ left)
+    ⊎ ((next : Disks) × IsInProgress rules answers (last_of start (worlds_of turns)) lines all next left now)
 
 -- What these commands wrote: each from the bytes on that were there before it, the first from those that the start
--- left, which formatted eight roots and opened them, however far it came; and after the last nothing, where the job came
--- to its output, and else no more than the command that was in progress.
-pub record IsGeneratedWithin (rules : List Rule) (answers : Answers) (n : ℕ) (turns : List Turn) (Whole : Type 0)
-    (old new : Medium) : Type 0 where
+-- left, which formatted eight roots and opened them, however far it came; and after the last nothing, where the job
+-- came to its output, and else no more than the command that was in progress.
+pub record IsGeneratedWithin (rules : List Rule) (answers : Answers) (lines all : List (List ℕ)) (turns : List Turn)
+    (Whole : Type 0) (old new : Medium) : Type 0 where
   pub begun : DiskBytes
-  pub roots : Spares IsNoRoot old.image begun.image
-  pub starts : begun.written ≤ old.written + (8 * format_cost + 8 * root_cost [])
+  pub starts : FormatsWithin (bytes_now old) begun
   pub bounded : AreBounded rules answers formatted begun turns
   pub held : Whole → bytes_now new ≡ bytes_after begun turns
-  pub left : IsLeftBy rules answers formatted (generated n) turns (bytes_after begun turns) (bytes_now new)
+  pub left : IsLeftBy rules answers formatted lines all turns (bytes_after begun turns) (bytes_now new)
 
 -- the lines that the number gives, each with its reply and its world from the formatted one on: the applications as the
--- disk denotes them and memory keeps them
+-- disk denotes them and memory keeps them; where the job did not come to its output, the first of the lines
 pub record Generates (told : Bool) (rules : List Rule) (answers : Answers) (n status : ℕ) (before now : Option (List ℕ))
     (old new : Medium) : Type 0 where
+  pub lines : List (List ℕ)
+  pub first : BeginWith lines (generated n)
+  pub whole : CameToOutput status → lines ≡ generated n
   pub turns : List Turn
-  pub gives : CameToOutput status → Give (generated n) (events_of turns)
+  pub gives : Give lines (events_of turns)
   pub output : WritesOutput status before now (summary (length (generated n)) (replies_of turns))
   pub failures : CountsFailures (CameToOutput status) old.faults turns new.faults
   pub follow : IsTrue told → Follow rules answers formatted turns
-  pub bounded : IsTrue told → IsGeneratedWithin rules answers n turns (CameToOutput status) old new
+  pub bounded : IsTrue told
+      → IsGeneratedWithin rules answers lines (generated n) turns (CameToOutput status) old new
   pub settled : IsTrue told → CameToOutput status → IsSettled (last_of formatted (worlds_of turns)) new
   pub clean : IsTrue told → CameToOutput status → (app : ℕ) → app < 8 → AreSoundDoubts app (worlds_of turns)
       → IsCleanApp app new.image

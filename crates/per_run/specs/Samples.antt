@@ -1,5 +1,6 @@
--- Samples, computed: arguments and the jobs that they ask for, and the summary of a synthetic workload.
-use Rattle.std.specs.Prelude.{◌≡◌, ℕ, [], ◌∷◌, Option, Some, None, codes}
+-- Samples, computed: arguments and the jobs that they ask for, the summary of a synthetic workload, and what a
+-- formatting and the start on it cost.
+use Rattle.std.specs.Prelude.{◌≡◌, ◌+◌, ◌*◌, ℕ, [], ◌∷◌, Option, Some, None, codes}
 use Rattle.std.proofs.Common.{refl}
 use Rattle.std.specs.Fmt.{digits}
 use Rattle.clap.proofs.OnLiterals.{clap_on_literals}
@@ -7,6 +8,7 @@ use Rattle.command_text.specs.declared.replies.Answer.{Answer}
 use Rattle.command_text.specs.declared.replies.Answer.TheVariants as answer
 use Rattle.command_text.specs.declared.replies.Reply.{Reply}
 use Rattle.per_base.specs.declared.errors.PerError.TheVariants as error
+use Rattle.deploy_rows.specs.Costs.{format_cost, root_cost}
 use Rattle.per_list.specs.declared.forms.Form.TheVariants.{Lines, Json}
 use Rattle.per_run.specs.declared.words.Job.{Job}
 use Rattle.per_run.specs.declared.words.JobKind.{JobKind}
@@ -184,3 +186,9 @@ refused : summary 2 (reply (answer.Error error.NotInstalled) ∷ reply (answer.E
     ≡ codes "lines 2 ok 0 other 0 errors 2 size -\n"
 unfolding digits
 refused = refl
+
+-- ---- a formatting
+
+-- eight roots of 402 bytes, and eight of 270
+formatted_and_started : 8 * format_cost + 8 * root_cost [] ≡ 5376
+formatted_and_started = refl

@@ -14,13 +14,14 @@ use Rattle.command_text.specs.Grammar.{IsLine}
 use Rattle.command_text.specs.Replies.{reply_text}
 use Rattle.deploy_laws.specs.Apps.{IsCleanApp}
 use Rattle.deploy_rows.specs.Costs.{format_cost, root_cost}
+use Rattle.run_model.specs.Costs.{roots_cost}
 use Rattle.run_model.specs.Endings as endings
 use Rattle.run_model.specs.Endings.{Ending, HasCauseOf, HasEnded, bad_line_text, ending_status}
 use Rattle.run_model.specs.Lines.{IsBad, lines_of}
 use Rattle.run_model.specs.Moments.{last_of}
 use Rattle.run_model.specs.Runs.{DiskSide, IsSettled}
 use Rattle.run_model.specs.Runtimes.{IsNoRoot}
-use Rattle.run_model.specs.Turns.{Turn, CountsFailures, worlds_of}
+use Rattle.run_model.specs.Turns.{DiskBytes, Turn, CountsFailures, bytes_now, worlds_of}
 use Rattle.run_model.specs.Worlds.{after_start, formatted, world_at}
 
 -- ---- the lines that were handled
@@ -170,14 +171,15 @@ pub record Serve (told : Bool) (rules : List Rule) (answers : Answers) (status :
 abbrev pub HasNoBytes : Image → Type 0
 HasNoBytes image = (file : ℕ) → file < 32768 → image file ≡ []
 
--- The formatting of eight roots and the start on them, however far they came: only slots of roots change, and no more is
--- written than both cost.
-pub record FormatsWithin (old new : Medium) : Type 0 where
+-- The formatting of eight roots and the start on them, however far they came: only slots of roots change, and no more
+-- is written than both cost.
+pub record FormatsWithin (old new : DiskBytes) : Type 0 where
   pub roots : Spares IsNoRoot old.image new.image
   pub written : new.written ≤ old.written + (8 * format_cost + 8 * root_cost [])
 
 -- eight applications of which nothing is installed, in clean places, and nothing pending; only slots of roots changed,
--- and no more was written than the formatting of eight roots costs
+-- and no more was written than the formatting of eight roots costs; and the start then costs eight roots with no
+-- manifest
 pub record IsFreshlyFormatted (told : Bool) (old start : Medium) : Type 0 where
   pub world : IsTrue told → world_at start.image ≡ formatted
   pub clean : IsTrue told → (app : ℕ) → app < 8 → IsCleanApp app start.image
@@ -185,6 +187,7 @@ pub record IsFreshlyFormatted (told : Bool) (old start : Medium) : Type 0 where
   pub passes : start.faults ≡ old.faults
   pub roots : IsTrue told → Spares IsNoRoot old.image start.image
   pub written : start.written ≤ old.written + 8 * format_cost
+  pub bare : IsTrue told → roots_cost start.image 8 ≡ 8 * root_cost []
   pub time : Elapses old start
 
 -- a run that stays starts on the disk as it was; or on one that it formatted, since it was empty
@@ -197,7 +200,7 @@ pub data IsPreparedDisk {D : Type 0} (told : Bool) (medium : D → Medium) (old 
 -- nothing changed
 abbrev pub HadNothing : {D : Type 0} → (told : Bool) → (medium : D → Medium) → (old new : D) → Type 0
 HadNothing told medium old new = ((IsTrue told → HasNoBytes (medium old).image)
-    × (IsTrue told → FormatsWithin (medium old) (medium new))) ⊎ OnlyReads (medium old) (medium new)
+    × (IsTrue told → FormatsWithin (bytes_now (medium old)) (bytes_now (medium new)))) ⊎ OnlyReads (medium old) (medium new)
 
 -- A run that stays went over the disk that was prepared; or that was empty or could not be read, and the runtime did
 -- not start: no line was taken and nothing written.

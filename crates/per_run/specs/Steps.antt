@@ -222,10 +222,6 @@ pub record Counted (told : Bool) (rules : List Rule) (answers : Answers) (start 
   pub goes : Goes told rules answers start turns memory medium
   pub tallies : Tallies (replies_of turns) tally
 
--- the lines begin with these
-abbrev pub BeginWith : (lines all : List (List ℕ)) → Type 0
-BeginWith lines all = (others : List (List ℕ)) × (all ≡ lines ++ others)
-
 -- memory ran out in the handling of the lines `all`, of which no reply is written
 abbrev pub RunsShort : (told : Bool) → List Rule → Answers → (start : Medium) → (all : List (List ℕ)) → Medium → Type 0
 RunsShort told rules answers start all medium = Course told rules answers endings.memory start None all None medium

@@ -8,10 +8,11 @@ ghost use Rattle.per_base.specs.Causes.{Rose};
 ghost use Rattle.command_text.specs.declared.replies.Reply.{Reply};
 ghost use Rattle.command_text.specs.Generated.{generated, generated_lines};
 ghost use Rattle.run_model.specs.AppLaws.{AppLaws};
+ghost use Rattle.run_model.specs.Turns.{bytes_now};
 ghost use Rattle.per_runtime.specs.Memories.{IsRuntime, memory_of};
-ghost use Rattle.per_run.specs.Jobs.{Generates, WritesOutput, summary};
+ghost use Rattle.per_run.specs.Jobs.{BeginWith, Generates, WritesOutput, summary};
 ghost use Rattle.per_run.specs.Serves.{FormatsWithin};
-ghost use Rattle.per_run.specs.Steps.{BeginWith, Counted, Goes, IsServeBegun, RunsShort, Tallies};
+ghost use Rattle.per_run.specs.Steps.{Counted, Goes, IsServeBegun, RunsShort, Tallies};
 
 use crate::answering::{LineOutcome, answer_line};
 use crate::endings::{DEVICE, DONE, OUT_OF_MEMORY};
@@ -61,7 +62,7 @@ pub fn start_formatted<D: Disk>(alloc: Global, disk: &mut D) -> Result<Runtime, 
         (D.medium middle)
         (D.medium disk.new)) }
     // However it ends, only slots of roots change, and no more is written than the formatting and the start cost.
-    ensures within { IsTrue D.told → FormatsWithin (D.medium disk.old) (D.medium disk.new) }
+    ensures within { IsTrue D.told → FormatsWithin (bytes_now (D.medium disk.old)) (bytes_now (D.medium disk.new)) }
     // Where the device failed, the count of faults rose.
     ensures cause { IsErrOf result Stop.Device → Rose (D.medium disk.old).faults (D.medium disk.new).faults }
     ensures time { Elapses (D.medium disk.old) (D.medium disk.new) }
@@ -136,8 +137,9 @@ fn handle_all<D: Disk>(
         → Counted D.told (rules_of migrations.now) (answers_of migrations.now) (D.medium start) (generated number)
         (memory_of batch.new.runtime) batch.new.tally (D.medium disk.new)) }
     // Where memory ran out, it did so between commands or in one.
-    ensures short { OnErr result (AppLaws → (start : D) → Counted D.told (rules_of migrations.now) (answers_of migrations.now)
-        (D.medium start) [] (memory_of batch.old.runtime) batch.old.tally (D.medium disk.old)
+    ensures short { OnErr result (AppLaws → (start : D) → Counted D.told (rules_of migrations.now)
+        (answers_of migrations.now) (D.medium start) [] (memory_of batch.old.runtime) batch.old.tally
+        (D.medium disk.old)
         → RunsShort D.told (rules_of migrations.now) (answers_of migrations.now) (D.medium start)
         (generated number) (D.medium disk.new)) }
     ensures time { Elapses (D.medium disk.old) (D.medium disk.new) }
@@ -233,7 +235,7 @@ fn handle_one<D: Disk>(
         (memory_of batch.old.runtime) batch.old.tally (D.medium disk.old)
         → Counted D.told (rules_of migrations.now) (answers_of migrations.now) (D.medium start)
         (before ++ line.now ∷ []) (memory_of batch.new.runtime) batch.new.tally (D.medium disk.new)) }
-    // Where memory ran out, it did so between commands or in one, of any lines that begin with those before and this one.
+    // Where memory ran out, it did so between commands or in one, of any lines that begin with those before and this.
     ensures short { OnErr result (AppLaws → (start : D) (before all : List (List ℕ))
         → Counted D.told (rules_of migrations.now) (answers_of migrations.now)
         (D.medium start) before (memory_of batch.old.runtime) batch.old.tally (D.medium disk.old)

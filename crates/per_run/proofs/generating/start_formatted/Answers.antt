@@ -10,6 +10,7 @@ use Rattle.deploy_laws.specs.Apps.{IsCleanApp}
 use Rattle.per_runtime.specs.Memories.{memory_of}
 use Rattle.per_runtime.specs.declared.runtime.Runtime.{Runtime}
 use Rattle.run_model.specs.Runtimes.{IsNoRoot, Starts}
+use Rattle.run_model.specs.Turns.{bytes_now}
 use Rattle.run_model.specs.Worlds.{formatted, world_at}
 use Rattle.per_run.specs.Steps.{IsServeBegun}
 use Rattle.per_run.proofs.Fresh.{bare_roots, formats_on, formats_short, is_formatted}
@@ -54,13 +55,15 @@ returns-in-Ok-clause-begun g c = begun_ok g.D.Disk.medium g.D.Disk.told c.start.
     c.in-Ok.ensures.quiet c.format_all.ensures.time c.start.ensures.starts c.start.ensures.time
 
 pub returns-in-Ok-clause-within : goal.returns-in-Ok-clause-within
-returns-in-Ok-clause-within g c = λ tells. formats_on (c.format_all.ensures.outside.at_the_end tells)
-    c.format_all.ensures.written (bare_roots c.manifests_stay.ensures.absent _ (c.in-Ok.ensures.apps tells))
-    (c.start.ensures.stopped tells)
+returns-in-Ok-clause-within g c = λ tells. formats_on (g.D.Disk.medium c.args.disk.now)
+    (g.D.Disk.medium c.format_all.new.disk) (bytes_now (g.D.Disk.medium c.start.new.disk))
+    (c.format_all.ensures.outside.at_the_end tells) c.format_all.ensures.written
+    (bare_roots c.manifests_stay.ensures.absent _ (c.in-Ok.ensures.apps tells)) (c.start.ensures.stopped tells).roots
+    (c.start.ensures.stopped tells).written
 
 pub returns-in-Err-clause-within : goal.returns-in-Err-clause-within
-returns-in-Err-clause-within g c = λ tells. formats_short (c.format_all.ensures.outside.at_the_end tells)
-    c.format_all.ensures.written
+returns-in-Err-clause-within g c = λ tells. formats_short (g.D.Disk.medium c.args.disk.now)
+    (g.D.Disk.medium c.format_all.new.disk) (c.format_all.ensures.outside.at_the_end tells) c.format_all.ensures.written
 
 pub returns-in-Ok-clause-cause : goal.returns-in-Ok-clause-cause
 returns-in-Ok-clause-cause g c = λ failed. rose_before _ _ _ c.format_all.ensures.time.faults

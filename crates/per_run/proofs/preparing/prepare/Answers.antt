@@ -16,7 +16,9 @@ pub returns-in-Ok-true-clause-unready : goal.returns-in-Ok-true-clause-unready
 returns-in-Ok-true-clause-unready g c = on_err c.start_formatted.result
     (inr (inl (
       λ tells. says_true _ _ c.in-Ok-true.field-0-test (c.in-Ok-true.ensures.says tells),
-      λ tells. formats_later c.is_blank.ensures.reads (c.start_formatted.ensures.within tells),
+      λ tells. formats_later (g.D.Disk.medium c.args.disk.now) (g.D.Disk.medium c.is_blank.new.disk)
+          (g.D.Disk.medium c.start_formatted.new.disk) c.is_blank.ensures.reads
+          (c.start_formatted.ensures.within tells),
     )))
 
 pub returns-in-Ok-true-clause-cause : goal.returns-in-Ok-true-clause-cause
