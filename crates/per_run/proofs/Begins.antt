@@ -53,8 +53,8 @@ unbegun told m lawful = record {
 }
 
 -- a run that did not come to its lines
-pub run_none : AppLaws → (told : Bool) (rules : List Rule) (answers : Answers) (left before : Option (List ℕ)) (source sink : ℕ)
-    (old new : Medium) (status : ℕ)
+pub run_none : AppLaws → (told : Bool) (rules : List Rule) (answers : Answers) (left before : Option (List ℕ))
+    (source sink : ℕ) (old new : Medium) (status : ℕ)
     → IsLawful told new → Elapses old new → (IsTrue told → StartKeeps old new) → status ≡ 3 → Rose old.faults new.faults
     → Run told rules answers status left left before before source source sink sink old new
 run_none laws told rules answers left before source sink old new status lawful time keeps is rose = record {
@@ -77,8 +77,8 @@ run_none laws told rules answers left before source sink old new status lawful t
       (keeps tells);
 }
 
-pub run_short : AppLaws → (told : Bool) (rules : List Rule) (answers : Answers) (left before : Option (List ℕ)) (source sink : ℕ)
-    (old new : Medium) (status : ℕ)
+pub run_short : AppLaws → (told : Bool) (rules : List Rule) (answers : Answers) (left before : Option (List ℕ))
+    (source sink : ℕ) (old new : Medium) (status : ℕ)
     → IsLawful told new → Elapses old new → (IsTrue told → StartKeeps old new) → status ≡ 4
     → Run told rules answers status left left before before source source sink sink old new
 run_short laws told rules answers left before source sink old new status lawful time keeps is = record {
@@ -97,8 +97,8 @@ run_short laws told rules answers left before source sink old new status lawful 
   cause = tt;
   failures = record { last = old.faults; blamed = refl; later = time.faults; passes = λ over. absurd over };
   time = time;
-  disk = λ tells. start_disk laws rules answers endings.start_memory before before told old new lawful time (λ begun. begun)
-      (keeps tells);
+  disk = λ tells. start_disk laws rules answers endings.start_memory before before told old new lawful time
+      (λ begun. begun) (keeps tells);
 }
 
 -- the same memory under another name

@@ -217,8 +217,8 @@ module _ (told : Bool) (rules : List Rule) (answers : Answers) (start : Medium) 
       go TooLong r = absurd r
 
   -- memory ran out in a command
-  pub course_stopped : AppLaws → (lines others : List (List ℕ)) (now : Option (List ℕ)) (memory : Memory) (old new : Medium)
-      (text : List ℕ) → IsLawful told new → Elapses old new
+  pub course_stopped : AppLaws → (lines others : List (List ℕ)) (now : Option (List ℕ)) (memory : Memory)
+      (old new : Medium) (text : List ℕ) → IsLawful told new → Elapses old new
       → Handled told rules answers start before lines now memory old → IsStopped told rules answers text memory old new
       → Course told rules answers endings.memory start before (lines ++ text ∷ others) now new
   course_stopped laws lines others now memory old new text lawful time handled s = record {

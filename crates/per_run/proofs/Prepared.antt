@@ -243,8 +243,8 @@ serve_none laws told rules answers endings.device status left before source sink
       disk = λ tells. start_disk laws rules answers endings.device None None told old new lawful time (λ begun. begun)
           (keeps tells);
     }
-serve_none laws told rules answers endings.start_memory status left before source sink old new open_end lawful time keeps is
-    cause = record {
+serve_none laws told rules answers endings.start_memory status left before source sink old new open_end lawful time
+    keeps is cause = record {
       ending = endings.start_memory;
       status_is = is;
       given = [];
@@ -269,8 +269,8 @@ pub serves_none : {D : Type 0} → AppLaws → (told : Bool) (medium : D → Med
     → Serves told medium rules answers 3 left left before before source source sink sink old new
 serves_none laws told medium rules answers left before source sink old new lawful time (inl keeps) rose =
     served old (as_it_was keeps.0 refl)
-    (serve_none laws told rules answers endings.device 3 left before source sink (medium old) (medium new) (λ begun. begun)
-    lawful time keeps.1 refl rose)
+    (serve_none laws told rules answers endings.device 3 left before source sink (medium old) (medium new)
+    (λ begun. begun) lawful time keeps.1 refl rose)
 serves_none laws told medium rules answers left before source sink old new lawful time (inr nothing) rose =
     unprepared nothing (inl (refl, rose)) (Keeps-refl left) (Keeps-refl before)
 

@@ -476,7 +476,7 @@ steps_going rules answers turns e reply memory memory' doubt told old now new te
     memory' doubt told old now new tells lawful time going s
 
 -- a run that ended in its start
-NoneReached : List World → Type 0
+abbrev NoneReached : List World → Type 0
 NoneReached reached = reached ≡ []
 
 entry_imaged : (app : ℕ) → app < 8 → (image : Image) → IsWorldImaged app (world_at image)
@@ -553,8 +553,8 @@ pub stops_disk : AppLaws → (rules : List Rule) (answers : Answers) (ending : E
     → IsLine text (line.Event e) → Going rules answers (world_at old.image) (after_start (world_at old.image)) turns
     memory doubt old now
     → Stopped rules answers e memory doubt now new → DiskSide rules answers ending lines all turns before after old new
-stops_disk laws rules answers ending lines all others text turns before after e memory doubt told old now new lawful time
-    started_well open_end wrote is_next spelled going s = record {
+stops_disk laws rules answers ending lines all others text turns before after e memory doubt told old now new lawful
+    time started_well open_end wrote is_next spelled going s = record {
       follow = going.follow;
       worlds = going.worlds;
       cases = cases_more (IsReadSince old now) (IsReadSince old new) (worlds_of turns)
