@@ -50,8 +50,8 @@ needed_number text = if has_leading_zero text then codes "a number without leadi
 abbrev pub needed_digits : (text needed : List ℕ) → List ℕ
 needed_digits text needed = if leads_with_zero text then codes "a number without leading zeros" else needed
 
--- a value in the place of this text, with its bound where the text may spell a longer one: at most 8 bytes encode 6 of a
--- text, and a quoted text of no escapes has 7 around it
+-- a value in the place of this text, with its bound where the text may spell a longer one: at most 8 bytes encode 6 of
+-- a text, and a quoted text of no escapes has 7 around it
 abbrev pub needed_value : List ℕ → List ℕ
 needed_value text =
     if starts_with nat_eq text (codes "text:") && nat_lt 65538 (length text) then codes "a text of at most 65531 bytes"

@@ -7,8 +7,8 @@ use std::alloc::{AllocError, Global};
 /// What is said of a dump in which the string of a key spells no value, after the key.
 const NO_VALUE: &str = ": its string is the text of no value";
 
-/// What is wrong with the value for which this is said of a text that is no dump, in words; nothing where something else
-/// is said of it.
+/// What is wrong with the value for which this is said of a text that is no dump, in words; nothing where something
+/// else is said of it.
 ///
 /// # Errors
 ///
