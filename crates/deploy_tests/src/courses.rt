@@ -86,7 +86,7 @@ fn told(
         "fail" => disk.fail_calls(numbers(alloc, rest)?),
         "stop" => disk.stop_after(number(rest)?),
         "view" => return viewed(alloc, disk, app_of(rest)?, said),
-        "open" | "set" | "recover" | "reset" => {
+        "open" | "set" | "thing" | "recover" | "reset" => {
             let (app, rest) = cut(rest, ':');
             return stored(alloc, disk, app_of(app)?, verb, rest, said);
         }

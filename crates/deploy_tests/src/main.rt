@@ -13,7 +13,7 @@
 //!   `update=MANIFEST/BUSY`, `build=MANIFEST/STEPS/END`, `finish`, `rollback=BUSY`, `wipe=BUSY`, `look`. A busy storage
 //!   may be left out, and END is `commit`, `abort` or `forget`.
 //! - `open:APP:STORAGE`, `set:APP:STORAGE:KEY=VALUE+..`, `recover:APP:STORAGE`, `reset:APP:STORAGE` act on a storage of
-//!   the active version.
+//!   the active version; `thing:APP:STORAGE:KEY=KIND:COUNT+..` makes things of Rust types visible and syncs nothing.
 //! - `flip:FILE,..`, `spoil:FILE:AT:BYTE`, `hold:FILE:GENERATION:BYTES`, `wear:FIRST:COPIES` change files.
 //! - `fail:CALL,..`, `stop:CALLS`, `restart:WAY` fail calls of the disk, and cut the power.
 #![tactic(auto)]
@@ -31,6 +31,7 @@ mod roots;
 mod snapshots;
 mod stops;
 mod storages;
+mod things;
 mod versions;
 
 use std::io::{self, BufRead, BufReader};

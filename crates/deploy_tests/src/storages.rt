@@ -11,6 +11,7 @@ use crate::calls::name_of;
 use crate::courses::add;
 use crate::faults::Fault;
 use crate::refusals::{outcome_text, refusal_text};
+use crate::things::things;
 use case_words::{cut, text};
 use deploy::{Root, open_root, recover_storage, reset_storage, shape_of};
 use deployment_model::StorageConfig;
@@ -67,6 +68,7 @@ fn worded(
     match verb {
         "open" => opened(alloc, disk, shape),
         "set" if config.kind == StoreKind::Keys => set(alloc, disk, shape, config, rest),
+        "thing" if config.kind == StoreKind::Keys => things(alloc, disk, shape, config, rest),
         "recover" => {
             let refused = recover_storage(alloc, disk, &shape, config, RECOVERED)?;
             Ok(outcome_text(alloc, refused.as_ref())?)

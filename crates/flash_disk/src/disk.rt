@@ -5,6 +5,7 @@ ghost use Rattle.flash_disk.specs.Apart.{IsApart};
 
 use crate::layer::Layer;
 use flash_model::Flash;
+use std::fmt;
 use std::marker::Model;
 use thiserror::Error;
 
@@ -31,6 +32,12 @@ pub struct FlashRefused<F> {
     /// The flash, with every page as it was.
     pub flash: F,
     pub error: FlashOpenError,
+}
+
+impl<F> fmt::Display for FlashRefused<F> {
+    fn fmt<W: fmt::Write>(&self, f: &mut fmt::Formatter<W>) -> fmt::Result {
+        fmt::Display::fmt(&self.error, f)
+    }
 }
 
 /// A disk over a flash. Contracts see the flash, the greatest number that was used, and what the disk counts.

@@ -17,6 +17,7 @@ use element_laws::untouched_is_kept;
 use element_maps::{changes_make_maps, syncs_are_decided};
 use per_base::{Change, Fault};
 use std::alloc::AllocError;
+use std::fmt;
 
 /// Why a sync gave up.
 #[derive(Drop)]
@@ -27,6 +28,16 @@ pub enum SyncFault {
     WornOut(Kvs),
     /// `OutOfMemory` hands the storage back, and nothing happened.
     OutOfMemory(Kvs),
+}
+
+impl fmt::Display for SyncFault {
+    fn fmt<W: fmt::Write>(&self, f: &mut fmt::Formatter<W>) -> fmt::Result {
+        f.write_str(match self {
+            SyncFault::Device => "the disk failed",
+            SyncFault::WornOut(_) => "no generation is left for the changes",
+            SyncFault::OutOfMemory(_) => "memory ran out",
+        })
+    }
 }
 
 impl Kvs {

@@ -1,19 +1,22 @@
 -- What calls write at most, computed.
 use Rattle.std.specs.Prelude.{◌≡◌, ℕ, ◌+◌, ◌*◌, List, [], ◌∷◌, Some, None, refl}
-use Rattle.std.proofs.Common.{arith}
+use Rattle.std.proofs.Common.{arith, inr}
 use Rattle.per_base.specs.declared.elements.Content.TheVariants.{Good}
+use Rattle.per_base.specs.declared.errors.PerError.TheVariants as error
+use Rattle.disk_model.specs.Place.{IsNoSlot}
 use Rattle.element_state.specs.States.{Corrupt}
 use Rattle.element_state.specs.Written.{map_cost}
 use Rattle.migrate_fns.specs.Rules.{Rule, Answers}
 use Rattle.command_text.specs.declared.calls.Call.{Call}
 use Rattle.command_text.specs.declared.calls.Call.TheVariants as call
+use Rattle.deploy_laws.specs.Places.{root_place}
 use Rattle.deploy_rows.specs.Costs.{format_cost, greatest_cost, install_cost, root_cost}
 use Rattle.run_model.specs.Costs.{call_cost, finishing_cost, next_cost, opening_cost, update_cost}
 use Rattle.run_model.specs.Samples.{at_first, at_nine, computed, fav, home, in_copies, on, the_plan, world_after}
 use Rattle.run_model.specs.SamplesDamage.{found_so, in_three}
 use Rattle.run_model.specs.SamplesManifests.{cut_text, favourites_text, manifests_read, second_text}
-use Rattle.run_model.specs.Worlds.{World, app_of, at_rest, to_open}
-use Rattle.run_model.specs.Writes.{CostsCall}
+use Rattle.run_model.specs.Worlds.{Application, World, app_of, at_rest, to_open}
+use Rattle.run_model.specs.Writes.{CostsCall, IsBesideCall}
 
 -- what a call of application 0 costs in this world, whose root keeps these manifests
 abbrev cost : List (List ℕ) → World → Call → ℕ
@@ -137,6 +140,15 @@ a_closed_sync = refl
 no_storage : cost [] at_first (call.OpenKvs home) ≡ 0
 unfolding computed
 no_storage = refl
+
+-- an application whose root is to be opened before the call
+abbrev unopened : Application
+unopened = record (app_of at_first 0) { stage = to_open }
+
+-- and a call on a storage that is not there then leaves every file but slots of the root as it was
+nothing_touched : (file : ℕ) → IsNoSlot (root_place 0) file → IsBesideCall 0 unopened (call.Sync home) file
+unfolding computed
+nothing_touched file is = (is, inr (inr (error.StorageNotFound, refl)))
 
 -- a call on an open storage writes nothing
 a_get : cost [] at_nine (call.Get fav home) ≡ 0

@@ -1,7 +1,8 @@
 -- What is known of the bound on a command: one that writes nothing keeps it, one that names a storage where it stays in
 -- that storage's place, and one whose root was opened first.
-use Rattle.std.specs.Prelude.{◌≡◌, ◌≤◌, ℕ, ◌+◌, List, Option, Some, None, Ok}
+use Rattle.std.specs.Prelude.{◌≡◌, ◌≤◌, ℕ, ◌+◌, List, Option, Some, None, Ok, Err}
 use Rattle.std.proofs.Common.{refl, sym, ap, ◌∙◌, subst, le_trans, inl, inr, arith}
+use Rattle.per_base.specs.declared.errors.PerError.{PerError}
 use Rattle.disk_model.specs.Frame.{Spares}
 use Rattle.disk_model.specs.Image.{Image}
 use Rattle.disk_model.specs.Place.{IsNoSlot}
@@ -50,17 +51,20 @@ module _ (rules : List Rule) (answers : Answers) (now : ℕ) (r : Application) w
   costs_named app kept call.Wipe name some before after le = absurd cc
   costs_named app kept other name some before after le = le
 
-  -- and only the place of that storage is touched
+  -- and only the place of that storage is touched, and nothing where it is not found
   pub files_named : (app : ℕ) (c : Call) (name : List ℕ) → device_storage c ≡ Some name → (old new : Image)
       → ((f : FoundStorage) → found_named r c ≡ Some (Ok f) → Spares (IsBeside app f.bank f.number) old new)
+      → ((e : PerError) → found_named r c ≡ Some (Err e) → new ≡ old)
       → (file : ℕ) → IsBesidePlaces app r c file → new file ≡ old file
-  files_named app (call.Install text) name some old new place file is = absurd cc
-  files_named app (call.Update text) name some old new place file is = absurd cc
-  files_named app call.UpdateNext name some old new place file is = absurd cc
-  files_named app call.UpdateCommit name some old new place file is = absurd cc
-  files_named app other name some old new place file (inl none) =
+  files_named app (call.Install text) name some old new place missing file is = absurd cc
+  files_named app (call.Update text) name some old new place missing file is = absurd cc
+  files_named app call.UpdateNext name some old new place missing file is = absurd cc
+  files_named app call.UpdateCommit name some old new place missing file is = absurd cc
+  files_named app other name some old new place missing file (inl none) =
       absurd (none_some (device_storage other) name none some)
-  files_named app other name some old new place file (inr found) = place found.0 found.1 file found.2
+  files_named app other name some old new place missing file (inr (inl found)) = place found.0 found.1 file found.2
+  files_named app other name some old new place missing file (inr (inr refused)) =
+      ap (λ (i : Image). i file) (missing refused.0 refused.1)
 
 -- where the image is the same, and no more is written
 pub call_unwritten : (rules : List Rule) (answers : Answers) (app now : ℕ) (r : Application) (c : Call)
@@ -78,11 +82,13 @@ pub call_named : (rules : List Rule) (answers : Answers) (app now : ℕ) (r : Ap
     → new.written ≤ old.written + named_cost app now r c (found_named r c)
     → ((f : FoundStorage) → found_named r c ≡ Some (Ok f)
     → Spares (IsBeside app f.bank f.number) old.image new.image)
+    → ((e : PerError) → found_named r c ≡ Some (Err e) → new.image ≡ old.image)
     → IsCallWithin rules answers app now r c old new
-call_named rules answers app now r c name old new some cost place = record {
+call_named rules answers app now r c name old new some cost place missing = record {
   costs = costs_named rules answers now r app (manifests_at old.image app) c name some
       (old.written + opening_cost (manifests_at old.image app) r.stage) new.written (omega (arith, cost));
-  files = λ file beside. files_named rules answers now r app c name some old.image new.image place file beside.1;
+  files = λ file beside. files_named rules answers now r app c name some old.image new.image place missing file
+      beside.1;
 }
 
 pub command_unwritten : (rules : List Rule) (answers : Answers) (w : World) (e : Event) (old new : DiskBytes)

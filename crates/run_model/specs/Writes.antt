@@ -1,6 +1,8 @@
 -- What a command writes at most: how many bytes, and into which files.
-use Rattle.std.specs.Prelude.{◌≡◌, ◌≤◌, ◌⊎◌, ℕ, ◌+◌, ◌-◌, List, [], drop, take, Option, Some, None, Ok, ⊤}
+use Rattle.std.specs.Prelude.{◌≡◌, ◌≤◌, ◌⊎◌, ℕ, ◌+◌, ◌-◌, List, [], drop, take, Option, Some, None, Ok, Err}
+use Rattle.std.specs.Prelude.{⊤}
 use Rattle.std.specs.List.{AllByRecursion}
+use Rattle.per_base.specs.declared.errors.PerError.{PerError}
 use Rattle.disk_model.specs.Frame.{Spares}
 use Rattle.disk_model.specs.Place.{IsNoSlot, IsOutside}
 use Rattle.element_state.specs.declared.shapes.Shape.{Shape}
@@ -54,10 +56,11 @@ abbrev pub unmade_shapes : (app bank : ℕ) → Option InProgress → List Shape
 unmade_shapes app bank None = []
 unmade_shapes app bank (Some p) = drop p.built (shapes_from app bank 0 p.deployment.storages)
 
--- the call names no storage, or the file is none of those of the storage that it names
+-- the call names no storage, or one that is not found, or the file is none of those of the storage that it names
 abbrev pub IsBesideFound : (app : ℕ) → Application → Call → ℕ → Type 0
 IsBesideFound app r c file = (device_storage c ≡ None)
-    ⊎ ((f : FoundStorage) × (found_named r c ≡ Some (Ok f)) × IsBeside app f.bank f.number file)
+    ⊎ (((f : FoundStorage) × (found_named r c ≡ Some (Ok f)) × IsBeside app f.bank f.number file)
+    ⊎ ((e : PerError) × (found_named r c ≡ Some (Err e))))
 
 -- the file is in no place of a storage that the call makes or names
 abbrev pub IsBesidePlaces : (app : ℕ) → Application → Call → ℕ → Type 0

@@ -108,7 +108,7 @@ module _ (told : Bool) (rules : List Rule) (answers : Answers) (now : ℕ) (c : 
   within_by : (named : Option (List ℕ)) → device_storage c ≡ named → IsTrue told
       → IsCallWithin rules answers b.app now r c (bytes_now old) (bytes_now new)
   within_by (Some name) is tells = call_named rules answers b.app now r c name (bytes_now old) (bytes_now new) is
-      (s.costs tells) (s.place tells)
+      (s.costs tells) (s.place tells) (s.missing tells)
   within_by None is tells = let same = unwritten (s.idle tells (stays_off (app_at old.image b.app) c on is)) in
       call_unwritten rules answers b.app now r c (bytes_now old) (bytes_now new) same.0 same.1
 

@@ -140,6 +140,7 @@ module _ (laws : StorageLaws) (texts : TextLaw) (told : Bool) (app now : ℕ) (r
       written = λ tells. none_written app c before old;
       costs = λ tells. none_costs app now c before old;
       place = λ tells f is file beside. refl;
+      missing = λ tells e is. refl;
       time = elapses_none law;
     }
       where

@@ -50,11 +50,13 @@ use Rattle.per_runtime.specs.storages.Answers.{StorageCallMayLead}
 use Rattle.per_runtime.specs.storages.Durables.{IsSet, RepliesDone}
 use Rattle.per_runtime.specs.storages.Finding.{IsLocated, config_of, found_on, shape_at}
 use Rattle.per_runtime.specs.storages.Handled.{CostsNamed, IsStorageCallHandled, MayWrite, StaysInPlace}
+use Rattle.per_runtime.specs.storages.Handled.{StaysUnlessFound}
 use Rattle.per_runtime.specs.storages.Slots.{IsOpenAt, IsResting, resting_with, sessions_in, slot_at}
 use Rattle.per_runtime.specs.storages.StorageLaws.{StorageLaws}
 use Rattle.per_runtime.specs.declared.storages.finding.Located.{Located}
 use Rattle.per_runtime.specs.declared.storages.slots.OpenSlots.{OpenSlots}
 use Rattle.per_runtime.proofs.storage_lemmas.Ended.{TextLaw, answered_so, lost, placed, stopped}
+use Rattle.per_runtime.proofs.storage_lemmas.Handled.{found_stays}
 use Rattle.per_runtime.proofs.storage_lemmas.SlotLaws.{none_there, session_slot, set_again, set_same}
 use Rattle.per_runtime.proofs.storage_lemmas.Storing.{open_there}
 
@@ -238,6 +240,9 @@ module _ (laws : StorageLaws) (texts : TextLaw) (told : Bool) (app now : ℕ) (r
       in_place : IsTrue told → StaysInPlace app c before old.image new.image
       in_place tells = placed laws told app now root c was was old new l located resting next storing tells named
 
+      missing : IsTrue told → StaysUnlessFound c before old.image new.image
+      missing tells = found_stays c before f old.image new.image (named tells)
+
       -- memory ran out, or the device failed
       pub stopped_handled : (is : OpenSlots) → IsSet l.number None was is → (e : Stop) → refused ≡ None
           → (e ≡ Device → Rose old.faults new.faults)
@@ -250,6 +255,7 @@ module _ (laws : StorageLaws) (texts : TextLaw) (told : Bool) (app now : ℕ) (r
         written = written;
         costs = costs;
         place = in_place;
+        missing = missing;
         time = storing.time;
       }
       stopped_handled is emptied OutOfMemory none cause = record {
@@ -259,6 +265,7 @@ module _ (laws : StorageLaws) (texts : TextLaw) (told : Bool) (app now : ℕ) (r
         written = written;
         costs = costs;
         place = in_place;
+        missing = missing;
         time = storing.time;
       }
 
@@ -283,6 +290,7 @@ module _ (laws : StorageLaws) (texts : TextLaw) (told : Bool) (app now : ℕ) (r
         written = written;
         costs = costs;
         place = in_place;
+        missing = missing;
         time = storing.time;
       }
         where

@@ -91,6 +91,7 @@ module _ (laws : StorageLaws) (told : Bool) (app now : ℕ) (root : Root) (c : C
     written = λ tells. none_written app c (resting_with m.image app was) m;
     costs = λ tells. none_costs app now c (resting_with m.image app was) m;
     place = λ tells f is file beside. refl;
+    missing = λ tells e is. refl;
     time = elapses_none law;
   }
 
@@ -109,6 +110,7 @@ module _ (laws : StorageLaws) (told : Bool) (app now : ℕ) (root : Root) (c : C
     written = λ tells. none_written app c (resting_with m.image app was) m;
     costs = λ tells. none_costs app now c (resting_with m.image app was) m;
     place = λ tells f is file beside. refl;
+    missing = λ tells e is. refl;
     time = elapses_none law;
   }
 

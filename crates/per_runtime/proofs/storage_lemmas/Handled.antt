@@ -27,7 +27,7 @@ use Rattle.run_model.specs.Runtimes.{IsUnwritten, is_refusal}
 use Rattle.run_model.specs.Steps.{found_named}
 use Rattle.run_model.specs.Worlds.{Application}
 use Rattle.per_runtime.specs.storages.Answers.{CallsTo, HasStorageCallFailed, HasStorageCallStopped, IsStorageCallAnswered}
-use Rattle.per_runtime.specs.storages.Handled.{CostsNamed, IsStorageCallHandled, MayWrite}
+use Rattle.per_runtime.specs.storages.Handled.{CostsNamed, IsStorageCallHandled, MayWrite, StaysUnlessFound}
 use Rattle.per_runtime.specs.storages.Slots.{IsResting, resting_with}
 use Rattle.per_runtime.specs.declared.storages.slots.OpenSlots.{OpenSlots}
 
@@ -138,6 +138,15 @@ pub found_costs : (app now : ℕ) (c : Call) (before : Application) (f : FoundSt
 found_costs app now c before f old new is le = subst (λ (found : Option (Result FoundStorage PerError)).
     new.written ≤ old.written + named_cost app now before c found) (sym is) le
 
+found_not : (found : Option (Result FoundStorage PerError)) (f : FoundStorage) (e : PerError) → found ≡ Some (Ok f)
+    → found ≡ Some (Err e) → ⊥
+found_not found f e is refused = cc
+
+-- a storage that is found
+pub found_stays : (c : Call) (before : Application) (f : FoundStorage) (old new : Image)
+    → found_named before c ≡ Some (Ok f) → StaysUnlessFound c before old new
+found_stays c before f old new is e refused = absurd (found_not (found_named before c) f e is refused)
+
 -- a refusal that needs no device
 pub refused_row : (app now : ℕ) (c : Call) (before : Application) (e : PerError) (reply : Reply)
     → reply ≡ record { reports = []; answer = answer.Error e }
@@ -173,5 +182,6 @@ refused_handled untouched told app now root c slots m Same law resting same e re
   written = λ tells. none_written app c (resting_with m.image app slots) m;
   costs = λ tells. none_costs app now c (resting_with m.image app slots) m;
   place = λ tells f is file beside. refl;
+  missing = λ tells e is. refl;
   time = elapses_none law;
 }

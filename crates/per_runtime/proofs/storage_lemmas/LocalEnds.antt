@@ -73,6 +73,7 @@ idle_handled laws told app now root c was is m Same same law was_resting is_rest
   written = λ tells. none_written app c (resting_with m.image app was) m;
   costs = λ tells. none_costs app now c (resting_with m.image app was) m;
   place = λ tells f is file beside. refl;
+  missing = λ tells e is. refl;
   time = elapses_none law;
 }
 

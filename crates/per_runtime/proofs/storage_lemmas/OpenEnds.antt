@@ -46,13 +46,14 @@ use Rattle.run_model.specs.Worlds.{Application, at_rest}
 use Rattle.per_runtime.specs.storages.Durables.{IsSet, IsShown}
 use Rattle.per_runtime.specs.storages.Finding.{IsEarly, IsLocated, config_of, found_on, shape_at}
 use Rattle.per_runtime.specs.storages.Handled.{CostsNamed, IsStorageCallHandled, MayWrite, StaysInPlace}
+use Rattle.per_runtime.specs.storages.Handled.{StaysUnlessFound}
 use Rattle.per_runtime.specs.storages.Openings.{corrupt_reply, open_call}
 use Rattle.per_runtime.specs.storages.Slots.{IsOpenAt, IsResting, resting_with, slot_at}
 use Rattle.per_runtime.specs.storages.StorageLaws.{StorageLaws}
 use Rattle.per_runtime.specs.declared.storages.finding.Located.{Located}
 use Rattle.per_runtime.specs.declared.storages.slots.OpenSlots.{OpenSlots}
 use Rattle.per_runtime.proofs.storage_lemmas.Ended.{answered_so, lost, placed, stopped}
-use Rattle.per_runtime.proofs.storage_lemmas.Handled.{found_costs}
+use Rattle.per_runtime.proofs.storage_lemmas.Handled.{found_costs, found_stays}
 use Rattle.per_runtime.proofs.storage_lemmas.OpenRows.{open_named, open_not_durable, open_reaches, open_row, open_uses}
 use Rattle.per_runtime.proofs.storage_lemmas.SlotLaws.{none_there, session_slot, sessions_set, set_same}
 use Rattle.per_runtime.proofs.storage_lemmas.Storing.{resting_after, shape_is, stays_so}
@@ -145,6 +146,9 @@ module _ (laws : StorageLaws) (told : Bool) (app now : ℕ) (root : Root) (kind 
     in_place tells = placed laws told app now root (open_call kind name) was was old new l located resting
         (store_at old.image (shape_at l)) (storing (store_at old.image (shape_at l))) tells named_so
 
+    missing : IsTrue told → StaysUnlessFound (open_call kind name) before old.image new.image
+    missing tells = found_stays (open_call kind name) before f old.image new.image (named_so tells)
+
     none_due : MayWrite app (open_call kind name) before old new
     none_due durable g s is there = absurd (true≢false (sym durable ∙ open_not_durable kind name))
 
@@ -170,6 +174,7 @@ module _ (laws : StorageLaws) (told : Bool) (app now : ℕ) (root : Root) (kind 
       written = λ tells. none_due;
       costs = costs;
       place = in_place;
+      missing = missing;
       time = (storing (store_at old.image (shape_at l))).time;
     }
     open_failed OutOfMemory rose = record {
@@ -181,6 +186,7 @@ module _ (laws : StorageLaws) (told : Bool) (app now : ℕ) (root : Root) (kind 
       written = λ tells. none_due;
       costs = costs;
       place = in_place;
+      missing = missing;
       time = (storing (store_at old.image (shape_at l))).time;
     }
 
@@ -214,6 +220,7 @@ module _ (laws : StorageLaws) (told : Bool) (app now : ℕ) (root : Root) (kind 
       written = λ tells. none_due;
       costs = costs;
       place = in_place;
+      missing = missing;
       time = (storing (store_at old.image (shape_at l))).time;
     }
 
@@ -273,6 +280,7 @@ module _ (laws : StorageLaws) (told : Bool) (app now : ℕ) (root : Root) (kind 
       written = λ tells. none_due;
       costs = costs;
       place = in_place;
+      missing = missing;
       time = (storing (store_at old.image (shape_at l))).time;
     }
       where

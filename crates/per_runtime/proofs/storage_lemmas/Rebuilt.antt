@@ -50,13 +50,14 @@ use Rattle.per_runtime.specs.storages.Answers.{IsStorageCallAnswered, StorageCal
 use Rattle.per_runtime.specs.storages.Durables.{IsSet, RepliesDone, done_or}
 use Rattle.per_runtime.specs.storages.Finding.{IsEarly, IsLocated, config_of, found_on, shape_at}
 use Rattle.per_runtime.specs.storages.Handled.{CostsNamed, IsStorageCallHandled, MayWrite, StaysInPlace}
+use Rattle.per_runtime.specs.storages.Handled.{StaysUnlessFound}
 use Rattle.per_runtime.specs.storages.Slots.{IsResting, resting_with, slot_at}
 use Rattle.per_runtime.specs.storages.StorageLaws.{StorageLaws}
 use Rattle.per_runtime.specs.declared.storages.finding.Located.{Located}
 use Rattle.per_runtime.specs.declared.storages.slots.OpenSlots.{OpenSlots}
 use Rattle.per_runtime.proofs.storage_lemmas.DurableRows.{recover_reaches, recover_row, reset_reaches, reset_row}
 use Rattle.per_runtime.proofs.storage_lemmas.Ended.{TextLaw, answered_so, lost, placed, stopped}
-use Rattle.per_runtime.proofs.storage_lemmas.Handled.{found_costs}
+use Rattle.per_runtime.proofs.storage_lemmas.Handled.{found_costs, found_stays}
 use Rattle.per_runtime.proofs.storage_lemmas.SlotLaws.{none_there, session_slot, set_same}
 use Rattle.per_runtime.proofs.storage_lemmas.Storing.{resting_after, stays_so}
 use Rattle.per_runtime.proofs.storage_lemmas.Synced.{early_same, worn_early}
@@ -169,6 +170,9 @@ module _ (laws : StorageLaws) (texts : TextLaw) (told : Bool) (app now : ℕ) (r
     in_place : IsTrue told → StaysInPlace app c before old.image new.image
     in_place tells = placed laws told app now root c was was old new l located resting next storing tells named
 
+    missing : IsTrue told → StaysUnlessFound c before old.image new.image
+    missing tells = found_stays c before f old.image new.image (named tells)
+
     -- an empty slot stays so
     same_slot : IsSet l.number None was was
     same_slot = let room = resting.open_on.room in let within = located.within.in_slots in
@@ -202,6 +206,7 @@ module _ (laws : StorageLaws) (texts : TextLaw) (told : Bool) (app now : ℕ) (r
       written = written;
       costs = costs;
       place = in_place;
+      missing = missing;
       time = rebuilds.time;
     }
     rebuilt_err OutOfMemory err = record {
@@ -211,6 +216,7 @@ module _ (laws : StorageLaws) (texts : TextLaw) (told : Bool) (app now : ℕ) (r
       written = written;
       costs = costs;
       place = in_place;
+      missing = missing;
       time = rebuilds.time;
     }
 
@@ -244,6 +250,7 @@ module _ (laws : StorageLaws) (texts : TextLaw) (told : Bool) (app now : ℕ) (r
       written = written;
       costs = costs;
       place = in_place;
+      missing = missing;
       time = rebuilds.time;
     }
       where

@@ -1,6 +1,7 @@
 -- All that a call on a storage promises, by how it ended.
 use Rattle.std.specs.Prelude.{◌≡◌, ◌≢◌, ◌≤◌, ◌+◌, ℕ, Bool, true, false, IsTrue, Some, Result, Ok, Err}
 use Rattle.per_base.specs.Causes.{Rose}
+use Rattle.per_base.specs.declared.errors.PerError.{PerError}
 use Rattle.per_base.specs.declared.errors.PerError.TheVariants as error
 use Rattle.disk_model.specs.Frame.{Spares}
 use Rattle.disk_model.specs.Image.{Image}
@@ -40,6 +41,10 @@ abbrev pub StaysInPlace : (app : ℕ) → Call → (before : Application) → (o
 StaysInPlace app c before old new = (f : FoundStorage) → found_named before c ≡ Some (Ok f)
     → Spares (IsBeside app f.bank f.number) old new
 
+-- no file changes where the storage that the call names is not found
+abbrev pub StaysUnlessFound : Call → (before : Application) → (old new : Image) → Type 0
+StaysUnlessFound c before old new = (e : PerError) → found_named before c ≡ Some (Err e) → new ≡ old
+
 -- the call was answered: no call of the disk failed
 pub record IsStorageCallReplied (told : Bool) (app now : ℕ) (root : Root) (c : Call) (was is : OpenSlots)
     (old new : Medium) (reply : Reply) : Type 0 where
@@ -78,4 +83,5 @@ pub record IsStorageCallHandled (told : Bool) (app now : ℕ) (root : Root) (c :
   pub written : IsTrue told → MayWrite app c (resting_with old.image app was) old new
   pub costs : IsTrue told → CostsNamed app now c (resting_with old.image app was) old new
   pub place : IsTrue told → StaysInPlace app c (resting_with old.image app was) old.image new.image
+  pub missing : IsTrue told → StaysUnlessFound c (resting_with old.image app was) old.image new.image
   pub time : Elapses old new

@@ -19,5 +19,5 @@ returns-clause-refused c = λ rest never. other_typed c.args.key.now.content _ _
 
 pub returns-clause-memory : goal.returns-clause-memory
 returns-clause-memory c = λ out rest. subst (λ (due : Result Map PerError). NeedsMemory due)
-    (sym (other_typed c.args.key.now.content _ _ (type_of c.args.value.now) c.in-Some.ensures c.value-stored.ensures.reads rest
-    c.have_same_type.result c.have_same_type.ensures c.if-have_same_type.false)) tt
+    (sym (other_typed c.args.key.now.content _ _ (type_of c.args.value.now) c.in-Some.ensures
+    c.value-stored.ensures.reads rest c.have_same_type.result c.have_same_type.ensures c.if-have_same_type.false)) tt
