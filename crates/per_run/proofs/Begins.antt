@@ -5,6 +5,7 @@ use Rattle.disk_model.specs.Laws.{reads_none}
 use Rattle.disk_model.specs.Medium.{Medium, IsLawful, Elapses}
 use Rattle.migrate_fns.specs.Rules.{Rule, Answers}
 use Rattle.per_base.specs.Causes.{Rose}
+use Rattle.run_model.specs.AppLaws.{AppLaws}
 use Rattle.run_model.specs.Endings as endings
 use Rattle.run_model.specs.Endings.{HasCauseOf, ending_status}
 use Rattle.run_model.specs.RunLaws.{start_disk}
@@ -52,11 +53,11 @@ unbegun told m lawful = record {
 }
 
 -- a run that did not come to its lines
-pub run_none : (told : Bool) (rules : List Rule) (answers : Answers) (left before : Option (List ℕ)) (source sink : ℕ)
-    (old new : Medium) (status : ℕ)
+pub run_none : AppLaws → (told : Bool) (rules : List Rule) (answers : Answers) (left before : Option (List ℕ))
+    (source sink : ℕ) (old new : Medium) (status : ℕ)
     → IsLawful told new → Elapses old new → (IsTrue told → StartKeeps old new) → status ≡ 3 → Rose old.faults new.faults
     → Run told rules answers status left left before before source source sink sink old new
-run_none told rules answers left before source sink old new status lawful time keeps is rose = record {
+run_none laws told rules answers left before source sink old new status lawful time keeps is rose = record {
   ending = endings.device;
   status_is = is;
   given = [];
@@ -72,15 +73,15 @@ run_none told rules answers left before source sink old new status lawful time k
   cause = rose;
   failures = record { last = old.faults; blamed = refl; later = time.faults; passes = λ over. absurd over };
   time = time;
-  disk = λ tells. start_disk rules answers endings.device before before told old new lawful time (λ begun. begun)
+  disk = λ tells. start_disk laws rules answers endings.device before before told old new lawful time (λ begun. begun)
       (keeps tells);
 }
 
-pub run_short : (told : Bool) (rules : List Rule) (answers : Answers) (left before : Option (List ℕ)) (source sink : ℕ)
-    (old new : Medium) (status : ℕ)
+pub run_short : AppLaws → (told : Bool) (rules : List Rule) (answers : Answers) (left before : Option (List ℕ))
+    (source sink : ℕ) (old new : Medium) (status : ℕ)
     → IsLawful told new → Elapses old new → (IsTrue told → StartKeeps old new) → status ≡ 4
     → Run told rules answers status left left before before source source sink sink old new
-run_short told rules answers left before source sink old new status lawful time keeps is = record {
+run_short laws told rules answers left before source sink old new status lawful time keeps is = record {
   ending = endings.start_memory;
   status_is = is;
   given = [];
@@ -96,8 +97,8 @@ run_short told rules answers left before source sink old new status lawful time 
   cause = tt;
   failures = record { last = old.faults; blamed = refl; later = time.faults; passes = λ over. absurd over };
   time = time;
-  disk = λ tells. start_disk rules answers endings.start_memory before before told old new lawful time (λ begun. begun)
-      (keeps tells);
+  disk = λ tells. start_disk laws rules answers endings.start_memory before before told old new lawful time
+      (λ begun. begun) (keeps tells);
 }
 
 -- the same memory under another name

@@ -290,10 +290,10 @@ pub done_none : {D : Type 0} → AppLaws → (told : Bool) (medium : D → Mediu
     (record { disk = (medium disk).faults; source = source; sink = sink })
     (record { disk = (medium disk).faults; source = source; sink = sink }) disk disk
 done_none laws told medium Run rules answers left before source sink disk lawful =
-    run_short told rules answers left before source sink (medium disk) (medium disk) 4 lawful (elapses_none lawful)
+    run_short laws told rules answers left before source sink (medium disk) (medium disk) 4 lawful (elapses_none lawful)
     (λ tells. unbegun told (medium disk) lawful) refl
 done_none laws told medium Serve rules answers left before source sink disk lawful =
-    serves_short told medium rules answers left before source sink disk disk lawful (elapses_none lawful)
+    serves_short laws told medium rules answers left before source sink disk disk lawful (elapses_none lawful)
     (inr (inr (reads_none lawful)))
 done_none laws told medium Format rules answers left before source sink disk lawful =
     formats_none told 4 before (medium disk) (medium disk) (inr refl) (omega arith) (λ unfailed. refl)

@@ -217,11 +217,11 @@ module _ (told : Bool) (rules : List Rule) (answers : Answers) (start : Medium) 
       go TooLong r = absurd r
 
   -- memory ran out in a command
-  pub course_stopped : (lines others : List (List ℕ)) (now : Option (List ℕ)) (memory : Memory) (old new : Medium)
-      (text : List ℕ) → IsLawful told new → Elapses old new
+  pub course_stopped : AppLaws → (lines others : List (List ℕ)) (now : Option (List ℕ)) (memory : Memory)
+      (old new : Medium) (text : List ℕ) → IsLawful told new → Elapses old new
       → Handled told rules answers start before lines now memory old → IsStopped told rules answers text memory old new
       → Course told rules answers endings.memory start before (lines ++ text ∷ others) now new
-  course_stopped lines others now memory old new text lawful time handled s = record {
+  course_stopped laws lines others now memory old new text lawful time handled s = record {
     lines = lines;
     turns = handled.turns;
     gives = handled.gives;
@@ -234,7 +234,7 @@ module _ (told : Bool) (rules : List Rule) (answers : Answers) (start : Medium) 
     };
     disk = λ tells.
         let g : IsGoing rules answers start handled.turns memory old = handled.goes.disk tells in
-        stops_disk rules answers endings.memory lines (lines ++ text ∷ others) others text handled.turns before now
+        stops_disk laws rules answers endings.memory lines (lines ++ text ∷ others) others text handled.turns before now
         s.event memory g.0 told start old new lawful time tt (λ over. over)
         handled.wrote refl s.spelled g.2 (s.stopped tells g.0 g.1);
   }
@@ -251,7 +251,7 @@ module _ (told : Bool) (rules : List Rule) (answers : Answers) (start : Medium) 
       (sym same)
       (course_memory laws lines (text ∷ others) now now memory (medium old) handled (Appends-nil now))
   course_short {D} medium laws lines others now memory old new text lawful time handled (inr stopped) =
-      course_stopped lines others now memory (medium old) (medium new) text lawful time handled stopped
+      course_stopped laws lines others now memory (medium old) (medium new) text lawful time handled stopped
 
   -- ---- how a run ends in a reply
 

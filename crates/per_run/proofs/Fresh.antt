@@ -118,12 +118,26 @@ formats_none told status now old new is roots cost failed = record {
   failed = failed;
 }
 
+stopped_so : {status : ℕ} → (status ≡ 3) ⊎ (status ≡ 4) → endings.Ending
+stopped_so (inl three) = endings.device
+stopped_so (inr four) = endings.start_memory
+
+stopped_by : {status : ℕ} (is : (status ≡ 3) ⊎ (status ≡ 4)) → status ≡ endings.ending_status (stopped_so is)
+stopped_by (inl three) = three
+stopped_by (inr four) = four
+
+not_begun : {status : ℕ} (is : (status ≡ 3) ⊎ (status ≡ 4)) → endings.HasStarted (stopped_so is) → ⊥
+not_begun (inl three) begun = begun
+not_begun (inr four) begun = begun
+
 -- the formatting or the start did not end
 pub generates_none : (told : Bool) (rules : List Rule) (answers : Answers) (n status : ℕ) (now : Option (List ℕ))
     (old new : Medium) → (status ≡ 3) ⊎ (status ≡ 4) → old.faults ≤ new.faults
     → (IsTrue told → FormatsWithin (bytes_now old) (bytes_now new))
     → Generates told rules answers n status now now old new
 generates_none told rules answers n status now old new is later formats = record {
+  ending = stopped_so is;
+  status_is = stopped_by is;
   lines = [];
   first = (generated n, refl);
   whole = λ done. absurd (not_done status is done);
@@ -145,7 +159,8 @@ generates_none told rules answers n status now old new is later formats = record
     left = inl refl;
   };
   settled = λ tells done. absurd (not_done status is done);
-  clean = λ tells done. absurd (not_done status is done);
+  unbegun = λ open_end. (refl, formats);
+  clean = λ tells begun. absurd (not_begun is begun);
 }
 
 -- ---- a synthetic workload that was handled
@@ -198,6 +213,8 @@ pub generates_short : (told : Bool) (rules : List Rule) (answers : Answers) (n :
     (memory : Memory) (old middle begun new : Medium) → IsServeBegun told memory old middle begun
     → RunsShort told rules answers middle (generated n) new → Generates told rules answers n 4 now now old new
 generates_short told rules answers n now memory old middle begun new b course = record {
+  ending = endings.memory;
+  status_is = refl;
   lines = course.lines;
   first = first_lines course.lines (generated n) course.turns course.ends;
   whole = λ done. absurd (not_done 4 (inr refl) done);
@@ -225,7 +242,8 @@ generates_short told rules answers n now memory old middle begun new b course = 
         (side tells).reached (side tells).next (side tells).begun (bytes_now new) (side tells).progress);
   };
   settled = λ tells done. absurd (not_done 4 (inr refl) done);
-  clean = λ tells done. absurd (not_done 4 (inr refl) done);
+  unbegun = λ open_end. absurd (open_end tt);
+  clean = λ tells started app lt. (side tells).clean app lt (b.clean tells app lt);
 }
   where
     side : IsTrue told
@@ -235,13 +253,35 @@ generates_short told rules answers n now memory old middle begun new b course = 
     here : IsTrue told → after_start (world_at middle.image) ≡ formatted
     here tells = ap after_start (b.world tells) ∙ start_formatted
 
-pub generates_all : (told : Bool) (rules : List Rule) (answers : Answers) (n status : ℕ) (before now : Option (List ℕ))
-    (memory after : Memory) (tally : Tally) (old middle begun new : Medium)
+-- the lines are handled, and the summary was written, or memory ran out for it, or the sink failed
+handled_so : {status : ℕ} {Cause : Type 0} → (status ≡ 0) ⊎ ((status ≡ 4) ⊎ ((status ≡ 6) × Cause)) → endings.Ending
+handled_so (inl done) = endings.all_read
+handled_so (inr (inl four)) = endings.memory
+handled_so (inr (inr six)) = endings.sink
+
+handled_by : {status : ℕ} {Cause : Type 0} (is : (status ≡ 0) ⊎ ((status ≡ 4) ⊎ ((status ≡ 6) × Cause)))
+    → status ≡ endings.ending_status (handled_so is)
+handled_by (inl done) = done
+handled_by (inr (inl four)) = four
+handled_by (inr (inr six)) = six.0
+
+handled_begun : {status : ℕ} {Cause : Type 0} (is : (status ≡ 0) ⊎ ((status ≡ 4) ⊎ ((status ≡ 6) × Cause)))
+    → endings.HasStarted (handled_so is)
+handled_begun (inl done) = tt
+handled_begun (inr (inl four)) = tt
+handled_begun (inr (inr six)) = tt
+
+pub generates_all : {Cause : Type 0} (told : Bool) (rules : List Rule) (answers : Answers) (n status : ℕ)
+    (before now : Option (List ℕ)) (memory after : Memory) (tally : Tally) (old middle begun new : Medium)
     → IsServeBegun told memory old middle begun → (counted : Counted told rules answers middle
     (generated n) after tally new)
     → WritesOutput status before now (summary (n + 5) (replies_of counted.turns))
+    → (status ≡ 0) ⊎ ((status ≡ 4) ⊎ ((status ≡ 6) × Cause))
     → Generates told rules answers n status before now old new
-generates_all told rules answers n status before now memory after tally old middle begun new b counted writes = record {
+generates_all told rules answers n status before now memory after tally old middle begun new b counted writes
+    is = record {
+  ending = handled_so is;
+  status_is = handled_by is;
   lines = generated n;
   first = ([], sym (append-nil (generated n)));
   whole = λ done. refl;
@@ -268,9 +308,10 @@ generates_all told rules answers n status before now memory after tally old midd
       (ends_settled rules answers (world_at middle.image) (after_start (world_at middle.image))
       (begins_calm middle.image)
       counted.turns after g.0 middle new g.2);
-  clean = λ tells done app lt sound.
+  unbegun = λ open_end. absurd (open_end (handled_begun is));
+  clean = λ tells started app lt calm passes.
       let g : IsGoing rules answers middle counted.turns after new = counted.goes.disk tells in
-      (g.2.stayed app lt (b.clean tells app lt) sound).ready.clean;
+      (g.2.stayed app lt (b.clean tells app lt) calm).ready.clean;
 }
   where
     here : IsTrue told → after_start (world_at middle.image) ≡ formatted

@@ -210,12 +210,12 @@ module _ (told : Bool) (rules : List Rule) (answers : Answers) (start : Medium) 
       (inl (record { others = others; next = refl; wrote = hearing.wrote }))
 
   -- in a command
-  service_stopped : (heard : List Heard) (others : List (List ℕ)) (now : Option (List ℕ)) (memory : Memory)
+  service_stopped : AppLaws → (heard : List Heard) (others : List (List ℕ)) (now : Option (List ℕ)) (memory : Memory)
       (old new : Medium) (text : List ℕ) → IsLawful told new → Elapses old new
       → Hearing told rules answers start before heard now memory old
       → IsStopped told rules answers text memory old new
       → Service told rules answers endings.memory start before (lines_in heard ++ text ∷ others) now new
-  service_stopped heard others now memory old new text lawful time hearing s = record {
+  service_stopped laws heard others now memory old new text lawful time hearing s = record {
     heard = heard;
     are = hearing.are;
     ends = inl (record { others = text ∷ others; next = refl; wrote = hearing.wrote });
@@ -227,7 +227,7 @@ module _ (told : Bool) (rules : List Rule) (answers : Answers) (start : Medium) 
     };
     disk = λ tells.
         let g : IsGoing rules answers start (turns_in heard) memory old = hearing.goes.disk tells in
-        stops_disk rules answers endings.memory (lines_in heard) (lines_in heard ++ text ∷ others) others text
+        stops_disk laws rules answers endings.memory (lines_in heard) (lines_in heard ++ text ∷ others) others text
         (turns_in heard) None None s.event memory g.0 told start old new lawful time tt (λ over. over)
         tt refl s.spelled g.2 (s.stopped tells g.0 g.1);
   }
@@ -244,7 +244,7 @@ module _ (told : Bool) (rules : List Rule) (answers : Answers) (start : Medium) 
       (medium d)) (sym same)
       (service_memory laws heard (text ∷ others) now memory (medium old) hearing)
   service_short {D} medium laws heard others now memory old new text lawful time hearing (inr stopped) =
-      service_stopped heard others now memory (medium old) (medium new) text lawful time hearing stopped
+      service_stopped laws heard others now memory (medium old) (medium new) text lawful time hearing stopped
 
   -- in the text of a line, of which the sink took a prefix, or for which there was no memory
   service_cut : AppLaws → (ending : Ending) (heard : List Heard) (h : Heard) (number : ℕ) (others : List (List ℕ))

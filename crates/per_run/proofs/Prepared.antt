@@ -205,27 +205,27 @@ serves_from told medium rules answers ending left_before left_now before now sou
     source_now sink_before sink_now (medium r.start) (medium new) status (elapses_on r.time time) is source blamed s)
 
 -- one that did not
-serve_none : (told : Bool) (rules : List Rule) (answers : Answers) (ending : endings.Ending) (status : ℕ)
+serve_none : AppLaws → (told : Bool) (rules : List Rule) (answers : Answers) (ending : endings.Ending) (status : ℕ)
     (left before : Option (List ℕ)) (source sink : ℕ) (old new : Medium) → ¬ (HasStarted ending)
     → IsLawful told new → Elapses old new → (IsTrue told → StartKeeps old new) → status ≡ ending_status ending
     → HasCauseOf ending (record { disk = old.faults; source = source; sink = sink })
     (record { disk = new.faults; source = source; sink = sink })
     → Serve told rules answers status left left before before source source sink sink old new
-serve_none told rules answers endings.all_read status left before source sink old new open_end lawful time keeps is
+serve_none laws told rules answers endings.all_read status left before source sink old new open_end lawful time keeps is
     cause = absurd (open_end tt)
-serve_none told rules answers endings.end_line status left before source sink old new open_end lawful time keeps is
+serve_none laws told rules answers endings.end_line status left before source sink old new open_end lawful time keeps is
     cause = absurd (open_end tt)
-serve_none told rules answers endings.bad_line status left before source sink old new open_end lawful time keeps is
+serve_none laws told rules answers endings.bad_line status left before source sink old new open_end lawful time keeps is
     cause = absurd (open_end tt)
-serve_none told rules answers endings.memory status left before source sink old new open_end lawful time keeps is
+serve_none laws told rules answers endings.memory status left before source sink old new open_end lawful time keeps is
     cause = absurd (open_end tt)
-serve_none told rules answers endings.source status left before source sink old new open_end lawful time keeps is
+serve_none laws told rules answers endings.source status left before source sink old new open_end lawful time keeps is
     cause = absurd (open_end tt)
-serve_none told rules answers endings.sink status left before source sink old new open_end lawful time keeps is
+serve_none laws told rules answers endings.sink status left before source sink old new open_end lawful time keeps is
     cause = absurd (open_end tt)
-serve_none told rules answers endings.too_long status left before source sink old new open_end lawful time keeps is
+serve_none laws told rules answers endings.too_long status left before source sink old new open_end lawful time keeps is
     cause = absurd (open_end tt)
-serve_none told rules answers endings.device status left before source sink old new open_end lawful time keeps is
+serve_none laws told rules answers endings.device status left before source sink old new open_end lawful time keeps is
     cause = record {
       ending = endings.device;
       status_is = is;
@@ -240,11 +240,11 @@ serve_none told rules answers endings.device status left before source sink old 
       cause = cause;
       failures = record { last = old.faults; blamed = refl; later = time.faults; passes = λ over. absurd over };
       time = time;
-      disk = λ tells. start_disk rules answers endings.device None None told old new lawful time (λ begun. begun)
+      disk = λ tells. start_disk laws rules answers endings.device None None told old new lawful time (λ begun. begun)
           (keeps tells);
     }
-serve_none told rules answers endings.start_memory status left before source sink old new open_end lawful time keeps is
-    cause = record {
+serve_none laws told rules answers endings.start_memory status left before source sink old new open_end lawful time
+    keeps is cause = record {
       ending = endings.start_memory;
       status_is = is;
       given = [];
@@ -258,29 +258,29 @@ serve_none told rules answers endings.start_memory status left before source sin
       cause = cause;
       failures = record { last = old.faults; blamed = refl; later = time.faults; passes = λ over. absurd over };
       time = time;
-      disk = λ tells. start_disk rules answers endings.start_memory None None told old new lawful time
+      disk = λ tells. start_disk laws rules answers endings.start_memory None None told old new lawful time
           (λ begun. begun) (keeps tells);
     }
 
-pub serves_none : {D : Type 0} (told : Bool) (medium : D → Medium) (rules : List Rule) (answers : Answers)
+pub serves_none : {D : Type 0} → AppLaws → (told : Bool) (medium : D → Medium) (rules : List Rule) (answers : Answers)
     (left before : Option (List ℕ)) (source sink : ℕ) (old new : D) → IsLawful told (medium new)
     → Elapses (medium old) (medium new) → IsUnready told medium old new
     → Rose (medium old).faults (medium new).faults
     → Serves told medium rules answers 3 left left before before source source sink sink old new
-serves_none told medium rules answers left before source sink old new lawful time (inl keeps) rose =
+serves_none laws told medium rules answers left before source sink old new lawful time (inl keeps) rose =
     served old (as_it_was keeps.0 refl)
-    (serve_none told rules answers endings.device 3 left before source sink (medium old) (medium new) (λ begun. begun)
-    lawful time keeps.1 refl rose)
-serves_none told medium rules answers left before source sink old new lawful time (inr nothing) rose =
+    (serve_none laws told rules answers endings.device 3 left before source sink (medium old) (medium new)
+    (λ begun. begun) lawful time keeps.1 refl rose)
+serves_none laws told medium rules answers left before source sink old new lawful time (inr nothing) rose =
     unprepared nothing (inl (refl, rose)) (Keeps-refl left) (Keeps-refl before)
 
-pub serves_short : {D : Type 0} (told : Bool) (medium : D → Medium) (rules : List Rule) (answers : Answers)
+pub serves_short : {D : Type 0} → AppLaws → (told : Bool) (medium : D → Medium) (rules : List Rule) (answers : Answers)
     (left before : Option (List ℕ)) (source sink : ℕ) (old new : D) → IsLawful told (medium new)
     → Elapses (medium old) (medium new) → IsUnready told medium old new
     → Serves told medium rules answers 4 left left before before source source sink sink old new
-serves_short told medium rules answers left before source sink old new lawful time (inl keeps) =
+serves_short laws told medium rules answers left before source sink old new lawful time (inl keeps) =
     served old (as_it_was keeps.0 refl)
-    (serve_none told rules answers endings.start_memory 4 left before source sink (medium old) (medium new)
+    (serve_none laws told rules answers endings.start_memory 4 left before source sink (medium old) (medium new)
     (λ begun. begun) lawful time keeps.1 refl tt)
-serves_short told medium rules answers left before source sink old new lawful time (inr nothing) =
+serves_short laws told medium rules answers left before source sink old new lawful time (inr nothing) =
     unprepared nothing (inr refl) (Keeps-refl left) (Keeps-refl before)

@@ -21,12 +21,12 @@ use Rattle.command_text.specs.Replies.{answer_text, number_or_dash}
 use Rattle.deploy_laws.specs.Apps.{App, IsCleanApp}
 use Rattle.deploy_rows.specs.Costs.{format_cost}
 use Rattle.run_model.specs.Bounds.{AreBounded, bytes_after}
-use Rattle.run_model.specs.Endings.{FailureCounts}
+use Rattle.run_model.specs.Endings.{Ending, FailureCounts, HasStarted, ending_status}
 use Rattle.run_model.specs.Lines.{Give}
 use Rattle.run_model.specs.Lives.{LooksOnly}
 use Rattle.run_model.specs.Moments.{AreSoundDoubts, last_of}
 use Rattle.run_model.specs.Runs as runs
-use Rattle.run_model.specs.Runs.{IsInProgress, IsSettled}
+use Rattle.run_model.specs.Runs.{IsInProgress, IsSettled, IsSoundEnd}
 use Rattle.run_model.specs.Runtimes.{IsNoRoot}
 use Rattle.run_model.specs.Turns.{DiskBytes, Turn, bytes_now, events_of, replies_of, worlds_of, CountsFailures, Follow}
 use Rattle.run_model.specs.Worlds.{Disks, World, formatted, world_at}
@@ -155,6 +155,8 @@ pub record IsGeneratedWithin (rules : List Rule) (answers : Answers) (lines all 
 -- disk denotes them and memory keeps them; where the job did not come to its output, the first of the lines
 pub record Generates (told : Bool) (rules : List Rule) (answers : Answers) (n status : ℕ) (before now : Option (List ℕ))
     (old new : Medium) : Type 0 where
+  pub ending : Ending
+  pub status_is : status ≡ ending_status ending
   pub lines : List (List ℕ)
   pub first : BeginWith lines (generated n)
   pub whole : CameToOutput status → lines ≡ generated n
@@ -166,8 +168,11 @@ pub record Generates (told : Bool) (rules : List Rule) (answers : Answers) (n st
   pub bounded : IsTrue told
       → IsGeneratedWithin rules answers lines (generated n) turns (CameToOutput status) old new
   pub settled : IsTrue told → CameToOutput status → IsSettled (last_of formatted (worlds_of turns)) new
-  pub clean : IsTrue told → CameToOutput status → (app : ℕ) → app < 8 → AreSoundDoubts app (worlds_of turns)
-      → IsCleanApp app new.image
+  -- where the start did not end no line was handled, and no more was done than the formatting and the start
+  pub unbegun : ¬ (HasStarted ending) → (lines ≡ []) × (IsTrue told → FormatsWithin (bytes_now old) (bytes_now new))
+  -- and where it did the places are clean, however the job ended
+  pub clean : (tells : IsTrue told) → HasStarted ending → (app : ℕ) → app < 8 → AreSoundDoubts app (worlds_of turns)
+      → IsSoundEnd app ending (bytes_after (bounded tells).begun turns) new → IsCleanApp app new.image
 
 -- ---- an audit
 

@@ -7,13 +7,15 @@ use Rattle.std.proofs.Common.{refl, sym, ap, ap₂, ◌∙◌, subst, le_trans, 
 use Rattle.std.specs.Io.KnownBytes.{Appends}
 use Rattle.disk_model.specs.Case.{Case}
 use Rattle.disk_model.specs.Laws.{elapses_on}
-use Rattle.disk_model.specs.Medium.{Medium, Quiet, IsLawful, Elapses}
+use Rattle.disk_model.specs.Medium.{Medium, OnlyReads, Quiet, IsLawful, Elapses}
 use Rattle.migrate_fns.specs.Rules.{Rule, Answers}
 use Rattle.command_text.specs.declared.calls.Event.{Event}
 use Rattle.command_text.specs.declared.replies.Reply.{Reply}
 use Rattle.command_text.specs.declared.lines.Line.TheVariants as line
 use Rattle.command_text.specs.Grammar.{IsLine}
 use Rattle.deploy_laws.specs.Apps.{App, app_at, IsCleanApp}
+use Rattle.deploy_laws.specs.Pieces.{IsSoundApp}
+use Rattle.deploy_laws.specs.Stands.{Stands}
 use Rattle.run_model.specs.AppLaws.{AppLaws}
 use Rattle.run_model.specs.Worlds.{Application, after_start, Disks, Doubt, World, disks, disk_at, resting, all_resting}
 use Rattle.run_model.specs.Worlds.{world_at, after_run}
@@ -26,6 +28,7 @@ use Rattle.run_model.specs.Moments.{
   AreSoundDoubts,
   IsDecided,
   IsImaged,
+  IsSoundDoubt,
   IsSideImaged,
   IsWorldImaged,
   OrBefore,
@@ -38,12 +41,13 @@ use Rattle.run_model.specs.MomentLaws.{last_is, start_stays, step_stays, end_sta
 use Rattle.run_model.specs.KeepLaws.{rests}
 use Rattle.run_model.specs.Runtimes.{Running, Memory, with_disk, world_of, StepsOn, Stepped, Stopped, Starts}
 use Rattle.run_model.specs.Runtimes.{StartKeeps, IsUnwritten, writes_none}
+use Rattle.run_model.specs.Starting.{at_entry}
 use Rattle.run_model.specs.Bounds.{AreBounded, IsBounded, IsBegunWithin, StartsWithin, bytes_after}
 use Rattle.run_model.specs.Endings.{Ending, HasStarted, HasEnded, has_started}
 use Rattle.run_model.specs.Turns.{DiskBytes, Turn, Follow, bytes_now, turn, worlds_of, replies_text, IsBlamed}
 use Rattle.run_model.specs.Turns.{AreBlamed}
 use Rattle.run_model.specs.Runs.{AreCases, IsCaseOfDoubt, IsReadSince, Everywhen, IsSettled, starting, between, within}
-use Rattle.run_model.specs.Runs.{DiskSide}
+use Rattle.run_model.specs.Runs.{DiskSide, IsSoundEnd, all_ended, none_written, sound_reads}
 
 -- ---- the world of the memory
 
@@ -133,6 +137,35 @@ pub imaged_last : (app : ℕ) (w : World) (ws : List World) → IsWorldImaged ap
     → IsWorldImaged app (last_of w ws)
 imaged_last app w [] is are = is
 imaged_last app w (u ∷ us) is are = imaged_last app u us are.0 are.1
+
+-- ---- clean places at the end
+
+-- what stands between two disks in a sound case leaves clean places
+between_clean : AppLaws → (app : ℕ) (before after : Disks) (c : Case) → IsImaged app before → IsSoundApp app c
+    → Between app before after c → IsCleanApp app c.left
+between_clean laws app before after c is passes between = laws.clean app is.0 c.left (disk_at after app)
+    (subst (λ (a : App). Stands app c.left [] a (disk_at after app)) is.1
+    (between passes [] c.left (λ place of. record { others = λ f outside. refl; pieces = λ x piece. piece })))
+
+doubt_clean : AppLaws → (app : ℕ) (doubt : Option Doubt) (c : Case) → IsSideImaged app doubt → IsSoundApp app c
+    → InDoubt app doubt c → IsCleanApp app c.left
+doubt_clean laws app None c is passes there = absurd there
+doubt_clean laws app (Some d) c is passes there = between_clean laws app d.before d.after c is passes there
+
+moment_clean : AppLaws → (app : ℕ) (w : World) (next : Disks) (c : Case) → IsWorldImaged app w → IsSoundApp app c
+    → IsMomentOf app w [] next c → IsCleanApp app c.left
+moment_clean laws app w next c is passes (inl between) = between_clean laws app (disks w) next c is.0 passes between
+moment_clean laws app w next c is passes (inr there) = doubt_clean laws app w.doubt c is.1 passes there
+
+-- the moments of the exit, of which one leaves what reads give
+exit_clean : AppLaws → (app : ℕ) (w : World) (none : Type 0) (next : Disks) (old new : Medium) → IsWorldImaged app w
+    → IsCleanApp app old.image
+    → ((c : Case) → new.now c → (none × OnlyReads old new) ⊎ IsMomentOf app w [] next c)
+    → (c : Case) → new.now c → c.left ≡ new.image → IsSoundApp app c → IsCleanApp app new.image
+exit_clean laws app w none next old new is clean at_exit c now left passes = ⊎_elim
+    (λ idle. subst (λ (i : Image). IsCleanApp app i) (sym idle.1.image) clean)
+    (λ at. subst (λ (i : Image). IsCleanApp app i) left (moment_clean laws app w next c is passes at))
+    (at_exit c now)
 
 -- ---- one command more
 
@@ -443,10 +476,17 @@ steps_going rules answers turns e reply memory memory' doubt told old now new te
     memory' doubt told old now new tells lawful time going s
 
 -- a run that ended in its start
-pub start_disk : (rules : List Rule) (answers : Answers) (ending : Ending) (before after : Option (List ℕ))
+abbrev NoneReached : List World → Type 0
+NoneReached reached = reached ≡ []
+
+entry_imaged : (app : ℕ) → app < 8 → (image : Image) → IsWorldImaged app (world_at image)
+unfolding world_at
+entry_imaged app lt image = ((image, at_entry image app lt), tt)
+
+pub start_disk : AppLaws → (rules : List Rule) (answers : Answers) (ending : Ending) (before after : Option (List ℕ))
     (told : Bool) (old new : Medium) → IsLawful told new → Elapses old new
     → ¬ (HasStarted ending) → StartKeeps old new → DiskSide rules answers ending [] [] [] before after old new
-start_disk rules answers how before after told old new lawful time open_end keeps = record {
+start_disk laws rules answers how before after told old new lawful time open_end keeps = record {
   follow = tt;
   worlds = (starts_so old.image, tt);
   cases = tt;
@@ -458,14 +498,27 @@ start_disk rules answers how before after told old new lawful time open_end keep
   starts = record { roots = keeps.roots; written = keeps.written; later = time.written };
   bounded = tt;
   progress = starting open_end refl refl refl refl refl refl;
-  clean = λ over. absurd (open_end (has_started how over));
+  clean = λ app lt clean calm. begun_clean app lt clean;
   everywhen = record {
-    always = λ app lt clean sound c s. ⊎_elim (λ before. inl before) (λ b. inr (inl b)) (keeps.always app lt clean c s);
-    at_exit = λ app lt clean sound c at. ⊎_elim (λ reads. inl (refl, reads))
-        (λ each. inr (inl (each app lt clean c at))) keeps.at_exit;
-    decided = λ app lt clean sound. tt;
+    always = λ app lt clean calm c s. ⊎_elim (λ before. inl before) (λ b. inr (inl b)) (keeps.always app lt clean c s);
+    at_exit = λ app lt clean calm. left app lt clean;
+    decided = λ app lt clean calm. tt;
   };
 }
+  where
+    left : (app : ℕ) → app < 8 → IsCleanApp app old.image → (c : Case) → new.now c
+        → (NoneReached [] × OnlyReads old new)
+        ⊎ IsMomentOf app (world_at old.image) [] (disks (after_start (world_at old.image))) c
+    left app lt clean c at = ⊎_elim (λ reads. inl (refl, reads)) (λ each. inr (inl (each app lt clean c at)))
+        keeps.at_exit
+
+    begun_clean : (app : ℕ) → app < 8 → IsCleanApp app old.image → IsSoundEnd app how (bytes_now new) new
+        → IsCleanApp app new.image
+    begun_clean app lt clean (all_ended over) = absurd (open_end (has_started how over))
+    begun_clean app lt clean (none_written begun same) = absurd (open_end begun)
+    begun_clean app lt clean (sound_reads c now is passes) = exit_clean laws app (world_at old.image) (NoneReached [])
+        (disks (after_start (world_at old.image))) old new (entry_imaged app lt old.image) clean
+        (left app lt clean) c now is passes
 
 -- one where every command has ended
 pub ends_disk : AppLaws → (rules : List Rule) (answers : Answers) (ending : Ending) (lines all : List (List ℕ))
@@ -486,13 +539,13 @@ ends_disk laws rules answers _ lines all turns before after memory doubt old now
   starts = going.starts;
   bounded = going.bounded;
   progress = between started_well refl refl going.held;
-  clean = λ over app lt clean sound. (going.stayed app lt clean sound).ready.clean;
+  clean = λ app lt clean calm end. (going.stayed app lt clean calm).ready.clean;
   everywhen = ends_everywhen rules answers (world_at old.image) (after_start (world_at old.image)) (start_calm old) laws
       turns memory doubt old now going;
 }
 
 -- one that stopped in a command
-pub stops_disk : (rules : List Rule) (answers : Answers) (ending : Ending) (lines all others : List (List ℕ))
+pub stops_disk : AppLaws → (rules : List Rule) (answers : Answers) (ending : Ending) (lines all others : List (List ℕ))
     (text : List ℕ) (turns : List Turn) (before after : Option (List ℕ))
     (e : Event) (memory : Memory) (doubt : Option Doubt) (told : Bool) (old now new : Medium) → IsLawful told new
     → Elapses now new → HasStarted ending
@@ -500,8 +553,8 @@ pub stops_disk : (rules : List Rule) (answers : Answers) (ending : Ending) (line
     → IsLine text (line.Event e) → Going rules answers (world_at old.image) (after_start (world_at old.image)) turns
     memory doubt old now
     → Stopped rules answers e memory doubt now new → DiskSide rules answers ending lines all turns before after old new
-stops_disk rules answers _ lines all others text turns before after e memory doubt told old now new lawful time
-    started_well open_end wrote is_next spelled going s = record {
+stops_disk laws rules answers ending lines all others text turns before after e memory doubt told old now new lawful
+    time started_well open_end wrote is_next spelled going s = record {
       follow = going.follow;
       worlds = going.worlds;
       cases = cases_more (IsReadSince old now) (IsReadSince old new) (worlds_of turns)
@@ -525,8 +578,27 @@ stops_disk rules answers _ lines all others text turns before after e memory dou
             (start_calm old) turns e
             memory doubt old now new time going s;
       });
-      clean = λ over. absurd (open_end over);
-      everywhen = stops_everywhen rules answers (world_at old.image) (after_start (world_at old.image)) (start_calm old)
-          turns e
-          memory doubt told old now new lawful time going s;
+      clean = λ app lt clean calm. stopped_clean app lt clean calm;
+      everywhen = every;
     }
+  where
+    every : Everywhen (world_at old.image) (after_start (world_at old.image) ∷ worlds_of turns) s.after old new
+    every = stops_everywhen rules answers (world_at old.image) (after_start (world_at old.image)) (start_calm old)
+        turns e memory doubt told old now new lawful time going s
+
+    imaged : (app : ℕ) → app < 8
+        → IsWorldImaged app (last_of (after_start (world_at old.image)) (worlds_of turns))
+    imaged app lt = imaged_last app (after_start (world_at old.image)) (worlds_of turns) (going.imaged app lt).0
+        (going.imaged app lt).1
+
+    stopped_clean : (app : ℕ) → app < 8 → IsCleanApp app old.image → AreSoundDoubts app (worlds_of turns)
+        → IsSoundEnd app ending (bytes_after going.begun turns) new → IsCleanApp app new.image
+    stopped_clean app lt clean calm (all_ended over) = absurd (open_end over)
+    stopped_clean app lt clean calm (none_written begun same) =
+        subst (λ (i : Image). IsCleanApp app i) (sym (ap (λ (b : DiskBytes). b.image) (same ∙ sym going.held)))
+        (going.stayed app lt clean calm).ready.clean
+    stopped_clean app lt clean calm (sound_reads c at is passes) = exit_clean laws app
+        (last_of (after_start (world_at old.image)) (worlds_of turns))
+        (NoneReached (after_start (world_at old.image) ∷ worlds_of turns)) s.after old new (imaged app lt) clean
+        (every.at_exit app lt clean
+        (subst (λ (d : Option Doubt). IsSoundDoubt app d) (sym (start_calm old)) tt, calm)) c at is passes

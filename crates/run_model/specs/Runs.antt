@@ -9,6 +9,7 @@ use Rattle.command_text.specs.declared.calls.Event.{Event}
 use Rattle.command_text.specs.declared.lines.Line.TheVariants as line
 use Rattle.command_text.specs.Grammar.{IsLine}
 use Rattle.deploy_laws.specs.Apps.{IsCleanApp}
+use Rattle.deploy_laws.specs.Pieces.{IsSoundApp}
 use Rattle.run_model.specs.Bounds.{AreBounded, IsBegunWithin, StartsWithin, bytes_after}
 use Rattle.run_model.specs.Endings.{Ending, ending_status, HasStarted, HasEnded, HasCauseOf, EndsBy, IsInput}
 use Rattle.run_model.specs.Lasting.{IsWorld}
@@ -88,6 +89,13 @@ pub data Progress (rules : List Rule) (answers : Answers) (ending : Ending) (sta
       → IsInProgress rules answers (last_of start (worlds_of turns)) lines all next (bytes_after begun turns) held
       → Progress rules answers ending start lines all turns before now reached next begun held
 
+-- At the end of a run nothing of the application passes its hash by chance: every command that was begun has ended; or
+-- no byte was written after the last one that did, which left these bytes; or what reads now give is sound.
+pub data IsSoundEnd (app : ℕ) (ending : Ending) (last : DiskBytes) (new : Medium) : Type 0 where
+  all_ended : HasEnded ending → IsSoundEnd app ending last new
+  none_written : HasStarted ending → bytes_now new ≡ last → IsSoundEnd app ending last new
+  sound_reads : (c : Case) → new.now c → c.left ≡ new.image → IsSoundApp app c → IsSoundEnd app ending last new
+
 -- What a run promises of a disk whose bytes are modelled, for the lines that were handled, of the lines `all`, the
 -- commands that they gave, and the bytes that were written before and now.
 pub record DiskSide (rules : List Rule) (answers : Answers) (ending : Ending) (lines all : List (List ℕ))
@@ -110,9 +118,9 @@ pub record DiskSide (rules : List Rule) (answers : Answers) (ending : Ending) (l
       begun (bytes_now new)
   -- each application, and what was there before a command that left a doubt, is what some image denotes
   pub imaged : (app : ℕ) → app < 8 → AreImaged app reached
-  -- where every command has ended, the places that were clean are clean again
-  pub clean : HasEnded ending → (app : ℕ) → app < 8 → IsCleanApp app old.image → AreSoundDoubts app (worlds_of turns)
-      → IsCleanApp app new.image
+  -- the places that were clean are clean again, however the run ended
+  pub clean : (app : ℕ) → app < 8 → IsCleanApp app old.image → AreSoundDoubts app (worlds_of turns)
+      → IsSoundEnd app ending (bytes_after begun turns) new → IsCleanApp app new.image
   -- every moment
   pub everywhen : Everywhen (world_at old.image) reached next old new
 

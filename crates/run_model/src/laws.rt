@@ -133,7 +133,9 @@ pub fn a_run_begins<D: Disk>(migrations: &Migrations, old: &D, new: &D)
         (D.medium new.now) }
     ensures stops { StartStopsLaw (rules_of migrations.now) (answers_of migrations.now) (D.medium old.now)
         (D.medium new.now) }
-{}
+{
+    applications_stand();
+}
 
 /// A run from `old` to `now`, and then a command that is answered, from `now` to `new`, are a run of one turn more,
 /// over a disk whose bytes are modelled (`D.told`).
@@ -165,4 +167,6 @@ pub fn a_run_ends<D: Disk>(migrations: &Migrations, old: &D, now: &D)
 pub fn a_run_stops<D: Disk>(migrations: &Migrations, old: &D, now: &D, new: &D)
     ensures { RunStopsLaw (rules_of migrations.now) (answers_of migrations.now) (D.medium old.now) (D.medium now.now)
         (D.medium new.now) }
-{}
+{
+    applications_stand();
+}

@@ -16,10 +16,10 @@ pub returns-in-Ok-clause-time : goal.returns-in-Ok-clause-time
 returns-in-Ok-clause-time g c = elapses_on c.prepare.ensures.time c.serve_input.ensures.time
 
 pub returns-in-Err-Device-clause-serves : goal.returns-in-Err-Device-clause-serves
-returns-in-Err-Device-clause-serves g c = serves_none _ g.D.Disk.medium _ _ _ _ _ _ _ _ (g.met.D.Disk.lawful _)
-    c.prepare.ensures.time c.in-Err-Device.ensures.unready
+returns-in-Err-Device-clause-serves g c = serves_none c.applications_stand.ensures _ g.D.Disk.medium _ _ _ _ _ _ _ _
+    (g.met.D.Disk.lawful _) c.prepare.ensures.time c.in-Err-Device.ensures.unready
     (c.prepare.ensures.cause (c.in-Err-Device.is ∙ ap Err c.in-Err-Device.field-0-is))
 
 pub returns-in-Err-OutOfMemory-clause-serves : goal.returns-in-Err-OutOfMemory-clause-serves
-returns-in-Err-OutOfMemory-clause-serves g c = serves_short _ g.D.Disk.medium _ _ _ _ _ _ _ _
-    (g.met.D.Disk.lawful _) c.prepare.ensures.time c.in-Err-OutOfMemory.ensures.unready
+returns-in-Err-OutOfMemory-clause-serves g c = serves_short c.applications_stand.ensures _ g.D.Disk.medium _ _ _ _ _ _
+    _ _ (g.met.D.Disk.lawful _) c.prepare.ensures.time c.in-Err-OutOfMemory.ensures.unready

@@ -9,6 +9,6 @@ returns-clause-begins g c memory time starts = starts_going (rules_of c.args.mig
 
 pub returns-clause-stops : goal.returns-clause-stops
 returns-clause-stops g c how before after time open_end keeps =
-    start_disk (rules_of c.args.migrations.now) (answers_of c.args.migrations.now) how before after g.D.Disk.told
-    (g.D.Disk.medium c.args.old.now) (g.D.Disk.medium c.args.new.now) (g.met.D.Disk.lawful c.args.new.now) time open_end
-    keeps
+    start_disk c.applications_stand.ensures (rules_of c.args.migrations.now) (answers_of c.args.migrations.now) how
+    before after g.D.Disk.told (g.D.Disk.medium c.args.old.now) (g.D.Disk.medium c.args.new.now)
+    (g.met.D.Disk.lawful c.args.new.now) time open_end keeps
