@@ -143,9 +143,9 @@ imaged_last app w (u ∷ us) is are = imaged_last app u us are.0 are.1
 -- what stands between two disks in a sound case leaves clean places
 between_clean : AppLaws → (app : ℕ) (before after : Disks) (c : Case) → IsImaged app before → IsSoundApp app c
     → Between app before after c → IsCleanApp app c.left
-between_clean laws app before after c is passes between = laws.clean app is.0 c.left (disk_at after app)
+between_clean laws app before after c is passes stands = laws.clean app is.0 c.left (disk_at after app)
     (subst (λ (a : App). Stands app c.left [] a (disk_at after app)) is.1
-    (between passes [] c.left (λ place of. record { others = λ f outside. refl; pieces = λ x piece. piece })))
+    (stands passes [] c.left (λ place of. record { others = λ f outside. refl; pieces = λ x piece. piece })))
 
 doubt_clean : AppLaws → (app : ℕ) (doubt : Option Doubt) (c : Case) → IsSideImaged app doubt → IsSoundApp app c
     → InDoubt app doubt c → IsCleanApp app c.left
@@ -154,7 +154,7 @@ doubt_clean laws app (Some d) c is passes there = between_clean laws app d.befor
 
 moment_clean : AppLaws → (app : ℕ) (w : World) (next : Disks) (c : Case) → IsWorldImaged app w → IsSoundApp app c
     → IsMomentOf app w [] next c → IsCleanApp app c.left
-moment_clean laws app w next c is passes (inl between) = between_clean laws app (disks w) next c is.0 passes between
+moment_clean laws app w next c is passes (inl stands) = between_clean laws app (disks w) next c is.0 passes stands
 moment_clean laws app w next c is passes (inr there) = doubt_clean laws app w.doubt c is.1 passes there
 
 -- the moments of the exit, of which one leaves what reads give
