@@ -43,7 +43,7 @@ use Rattle.per_run.proofs.Answered.{audits_none, exports_none, imports_cut, list
 use Rattle.per_run.proofs.Answered.{recovery_keeps_none}
 use Rattle.per_run.proofs.Begins.{run_short, unbegun}
 use Rattle.per_run.proofs.Completes.{OneLine, completes}
-use Rattle.per_run.proofs.Fresh.{formats_none, generates_none}
+use Rattle.per_run.proofs.Fresh.{formats_none, formats_still, generates_none}
 use Rattle.per_run.proofs.Inputs.{not_seen}
 use Rattle.per_run.proofs.Prepared.{earlier_start, serves_short}
 
@@ -296,9 +296,11 @@ done_none laws told medium Serve rules answers left before source sink disk lawf
     serves_short laws told medium rules answers left before source sink disk disk lawful (elapses_none lawful)
     (inr (inr (reads_none lawful)))
 done_none laws told medium Format rules answers left before source sink disk lawful =
-    formats_none told 4 before (medium disk) (medium disk) (inr refl) (omega arith) (λ unfailed. refl)
+    formats_none told 4 before (medium disk) (medium disk) (inr refl) (λ tells file is. refl) (omega arith)
+    (λ unfailed. refl)
 done_none laws told medium (Generate n) rules answers left before source sink disk lawful =
     generates_none told rules answers n 4 before (medium disk) (medium disk) (inr refl) (elapses_none lawful).faults
+    (λ tells. formats_still (medium disk))
 done_none laws told medium Audit rules answers left before source sink disk lawful =
     audits_none told 4 before (medium disk) (medium disk) (inr refl) (looks_none lawful) (λ unfailed. refl)
 done_none laws told medium (Listing f) rules answers left before source sink disk lawful =

@@ -76,7 +76,11 @@ within image was mid now bare formats starts = omega (arith, bare, formats, star
 pub spares_on : {spared : ℕ → Type 0} {a b c : Image} → Spares spared a b → Spares spared b c → Spares spared a c
 spares_on first later file is = later file is ∙ first file is
 
--- a formatting that did not end
+-- a formatting that was not begun
+pub formats_still : (m : Medium) → FormatsWithin (bytes_now m) (bytes_now m)
+formats_still m = record { roots = λ file is. refl; written = omega arith }
+
+-- one that did not end
 pub formats_short : (old new : Medium) → Spares IsNoRoot old.image new.image
     → new.written ≤ old.written + 8 * format_cost → FormatsWithin (bytes_now old) (bytes_now new)
 formats_short old new roots written = record { roots = roots; written = omega (arith, written) }
