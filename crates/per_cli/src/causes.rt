@@ -7,7 +7,7 @@ use per_run::{WordsError, read_words};
 use per_words::{is_line_word, unknown_in};
 use std::alloc::{AllocError, Global};
 use std::rt::Files;
-use std::{fmt, fs, io};
+use std::{fmt, fs, io, slice};
 use system_model::{Asked, Failure};
 
 /// What is said of invalid arguments.
@@ -189,7 +189,8 @@ fn wrong_words(alloc: Global, words: &[String]) -> Result<Option<String>, AllocE
     }
     for (option, takes) in VALUES.iter() {
         if has_wrong_value(alloc, words, option)? {
-            return Ok(Some(format!(in alloc; "{option} takes {takes}")?));
+            let hint = dashed_folder(alloc, words)?;
+            return Ok(Some(format!(in alloc; "{option} takes {takes}{hint}")?));
         }
     }
     let why = if words.iter().any(|word| is_option(word, "--dir")) {
@@ -198,6 +199,25 @@ fn wrong_words(alloc: Global, words: &[String]) -> Result<Option<String>, AllocE
         "what is missing is --dir DIR"
     };
     Ok(Some(String::from_str(alloc, why)?))
+}
+
+/// How a folder is typed whose name begins with a dash, where it stands after its option; nothing where none does.
+fn dashed_folder(alloc: Global, words: &[String]) -> Result<String, AllocError> {
+    for pair in words.windows(2) {
+        match pair {
+            [option, dir] if option.as_str() == "--dir" && is_dashed(dir) => {
+                let typed = typed_option(alloc, dir.as_str())?;
+                return format!(in alloc; ", and one that begins with a dash as {typed}");
+            }
+            _ => {}
+        }
+    }
+    Ok(String::new(alloc))
+}
+
+/// Whether the word begins with a dash, and is no option.
+fn is_dashed(word: &String) -> bool {
+    word.as_bytes().starts_with(b"-") && unknown_in(slice::from_ref(word)).is_some()
 }
 
 /// That the word is none of these arguments, where it can be shown, or where alone it stands.

@@ -1,8 +1,10 @@
 //! A first session, shown whole.
 
+use crate::causes::say_stream;
 use crate::saying::{Screen, say, typed};
-use crate::{NO_MEMORY, NO_OUTPUT, program};
+use crate::{NO_OUTPUT, program};
 use std::alloc::{AllocError, Global};
+use std::cell::Cell;
 use std::env::{self, Env};
 use std::fs::{self, File};
 use std::io::{self, Read, Write};
@@ -37,13 +39,15 @@ const SECOND_RUN: [&str; 12] = [
     "0 get cockpit volume\n",
 ];
 
-/// Lines as an input: each read gives one, and shows it before.
+/// Lines as an input: each read gives one, and shows it before. Where one cannot be shown the input ends.
 #[derive(Drop)]
 struct LinesShown<'a, R: Print> {
     rt: &'a R,
     lines: &'a [&'static str],
     /// How many lines were read.
     read: usize,
+    /// Why a line cannot be shown.
+    unshown: &'a Cell<Option<io::Error>>,
 }
 
 impl<'a, R: Print> Read for LinesShown<'a, R> {
@@ -56,7 +60,10 @@ impl<'a, R: Print> Read for LinesShown<'a, R> {
             return Err(io::Error::from(io::ErrorKind::InvalidInput));
         };
         room.copy_from_slice(bytes);
-        print!(self.rt; "> {line}")?;
+        if let Err(error) = print!(self.rt; "> {line}") {
+            self.unshown.set(Some(error));
+            return Ok(0);
+        }
         self.read = self.read.saturating_add(1);
         Ok(bytes.len())
     }
@@ -70,10 +77,18 @@ pub(crate) fn show<R: Files<File = File> + AllocGlobal + Env + Print + Screen>(
 ) -> u8 {
     match shown(rt, number) {
         Ok(status) => status,
-        Err(error) => match error.kind() {
-            io::ErrorKind::OutOfMemory => NO_MEMORY,
-            _ => NO_OUTPUT,
-        },
+        Err(error) => not_shown(rt, rt.alloc(), error),
+    }
+}
+
+/// Says why the session cannot be shown, and gives the status.
+fn not_shown<R: Screen>(rt: &R, alloc: Global, error: io::Error) -> u8 {
+    match error.kind() {
+        io::ErrorKind::OutOfMemory => program::no_memory(rt),
+        _ => {
+            let _ = say_stream(rt, alloc, "standard output", Some(error));
+            NO_OUTPUT
+        }
     }
 }
 
@@ -85,18 +100,27 @@ fn shown<R: Files<File = File> + AllocGlobal + Env + Print + Screen>(
     let dir = format!(in rt.alloc(); "{}/per-demo-{number}", dir.display())?;
     if let Err(error) = fs::create_dir(rt, dir.as_str()) {
         let line = format!(in rt.alloc(); "per: the folder {dir} cannot be made: {error}");
-        say(rt, rt.alloc(), line)?;
+        let _ = say(rt, rt.alloc(), line);
         return Ok(NO_FOLDER);
     }
-    let mut status = run(rt, dir.as_str(), true, &[])?;
+    let status = runs(rt, dir.as_str())?;
+    // A run that the output failed has said so.
+    if status != NO_OUTPUT {
+        let word = typed(rt.alloc(), dir.as_str())?;
+        println!(rt; "The folder stays: rm -r {word}")?;
+    }
+    Ok(status)
+}
+
+/// The runs of the session up to the first that fails. Gives the status of the run that ended last.
+fn runs<R: Files<File = File> + AllocGlobal + Print + Screen>(rt: &R, dir: &str) -> io::Result<u8> {
+    let mut status = run(rt, dir, true, &[])?;
     if status == 0 {
-        status = run(rt, dir.as_str(), false, &FIRST_RUN)?;
+        status = run(rt, dir, false, &FIRST_RUN)?;
     }
     if status == 0 {
-        status = run(rt, dir.as_str(), false, &SECOND_RUN)?;
+        status = run(rt, dir, false, &SECOND_RUN)?;
     }
-    let word = typed(rt.alloc(), dir.as_str())?;
-    println!(rt; "The folder stays: rm -r {word}")?;
     Ok(status)
 }
 
@@ -114,12 +138,18 @@ fn run<R: Files<File = File> + AllocGlobal + Print + Screen>(
         println!(rt; "$ ./per --dir {word}")?;
     }
     let words = words_of_run(rt.alloc(), dir, is_format)?;
-    Ok(program::run(
+    let unshown = Cell::new(None);
+    let input = LinesShown {
         rt,
-        &words,
-        LinesShown { rt, lines, read: 0 },
-        io::writer(rt),
-    ))
+        lines,
+        read: 0,
+        unshown: &unshown,
+    };
+    let status = program::run(rt, &words, input, io::writer(rt));
+    match unshown.get() {
+        Some(error) => Err(error),
+        None => Ok(status),
+    }
 }
 
 fn words_of_run(alloc: Global, dir: &str, is_format: bool) -> Result<Vec<String>, AllocError> {

@@ -18,7 +18,7 @@ use folder_disk::FolderDisk;
 use folder_flash::{FolderFlash, of_flash};
 use per_base::{PerError, Sequence};
 use per_dump::{Dumped, dump_application, restore_application};
-use per_reasons::{why_not_restored, why_refused};
+use per_reasons::{why_no_dump, why_not_restored, why_refused};
 use per_run::{JobKind, WordsError, read_words};
 use per_system::{Access, DeviceKind, HostSystem, Noted, NotedFlash, Notes};
 use per_words::options_in;
@@ -214,7 +214,18 @@ fn dump_in(alloc: Global, text: &[u8]) -> Result<Vec<DumpedApplication>, Unbegun
     if text.is_empty() {
         return Err(Unbegun::NoDump(String::from_str(alloc, "it is empty")?));
     }
-    Ok(read_dump(alloc, text)?)
+    match read_dump(alloc, text) {
+        Err(DumpError::NotADump(said)) => Err(Unbegun::NoDump(explained(alloc, text, said)?)),
+        read => Ok(read?),
+    }
+}
+
+/// What is said of a text that is no dump, and what is wrong with the value of which it is said.
+fn explained(alloc: Global, text: &[u8], said: String) -> Result<String, AllocError> {
+    match why_no_dump(alloc, text, said.as_str())? {
+        Some(why) => format!(in alloc; "{said}; {why}"),
+        None => Ok(said),
+    }
 }
 
 /// The folder, and the blocks of its flash.

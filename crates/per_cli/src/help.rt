@@ -8,7 +8,7 @@ use std::alloc::{AllocError, Global};
 use std::io::{self, Write};
 
 /// The version of the sources.
-const VERSION: &str = "0.20.0";
+const VERSION: &str = "0.21.0";
 
 /// A column after which no word stands.
 const FULL: usize = 80;
@@ -39,12 +39,11 @@ power loss, lost copies and updates.
                                 takes what one copy holds of the root of
                                 application A, where too few copies agree
   ./per dump --dir DIR          writes all applications as a text for a person,
-                                with their manifests, values and files; after
-                                dump A application A alone; mends nothing
+                                with their manifests, values and files; dump A
+                                writes application A alone; mends nothing
   ./per restore --dir DIR       installs the applications of such a text on
                                 standard input where nothing is installed, each
-                                whole or not at all; after restore FILE those
-                                of a file
+                                whole or not at all; restore FILE takes a file
   ./per --flash N --dir DIR     the same as without --flash, in one file of the
                                 folder that serves as raw flash of N blocks,
                                 4 to 4096; beside each of the words above

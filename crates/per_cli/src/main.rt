@@ -105,10 +105,7 @@ fn main(rt: HostRuntime) -> ExitCode {
     };
     let words = match words_of(&rt) {
         Ok(words) => words,
-        Err(error) => {
-            let _ = say_unread(&rt, error);
-            return ExitCode::from(status_of(&error));
-        }
+        Err(error) => return ExitCode::from(unread(&rt, error)),
     };
     ExitCode::from(answered(&rt, &words))
 }
@@ -148,6 +145,17 @@ fn words_of(rt: &(impl env::Env + AllocGlobal)) -> io::Result<Vec<String>> {
     match words.skip(1).collect(rt.alloc()) {
         Ok(words) => Ok(words),
         Err(_) => Err(io::Error::from(io::ErrorKind::OutOfMemory)),
+    }
+}
+
+/// Says why the arguments cannot be read, and gives the status.
+fn unread<R: env::Env + AllocGlobal + Screen>(rt: &R, error: io::Error) -> u8 {
+    match error.kind() {
+        io::ErrorKind::OutOfMemory => program::no_memory(rt),
+        _ => {
+            let _ = say_unread(rt, error);
+            NO_WORDS
+        }
     }
 }
 
@@ -196,14 +204,6 @@ fn shown(alloc: Global, word: &[u8]) -> Result<String, AllocError> {
         text.push_str("..")?;
     }
     Ok(text)
-}
-
-/// The status where the arguments cannot be read.
-fn status_of(error: &io::Error) -> u8 {
-    match error.kind() {
-        io::ErrorKind::OutOfMemory => NO_MEMORY,
-        _ => NO_WORDS,
-    }
 }
 
 fn wish_of(words: &[String], named: &[&[u8]]) -> Asked {

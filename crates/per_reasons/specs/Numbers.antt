@@ -1,5 +1,6 @@
--- What is said of a number that is none of its type.
-use Rattle.std.specs.Prelude.{ℕ, List, [], ◌∷◌, drop, codes, Bool, false, ◌&&◌, ◌||◌, nat_eq, if◌then◌else◌}
+-- What is said of a number that is none of its type, and of a value that is too long.
+use Rattle.std.specs.Prelude.{ℕ, List, [], ◌∷◌, length, drop, codes, Bool, false, ◌&&◌, ◌||◌, nat_eq, nat_lt}
+use Rattle.std.specs.Prelude.{if◌then◌else◌}
 use Rattle.std.specs.Char.{is_ascii_digit}
 use Rattle.std.specs.List.{starts_with}
 
@@ -44,3 +45,16 @@ bounds_text text =
 -- a number in the place of this text, which begins with a type: one of that type, and spelled as one
 abbrev pub needed_number : List ℕ → List ℕ
 needed_number text = if has_leading_zero text then codes "a number without leading zeros" else bounds_text text
+
+-- digits in the place of this text, where a number has this need
+abbrev pub needed_digits : (text needed : List ℕ) → List ℕ
+needed_digits text needed = if leads_with_zero text then codes "a number without leading zeros" else needed
+
+-- a value in the place of this text, with its bound where the text may spell a longer one: at most 8 bytes encode 6 of
+-- a text, and a quoted text of no escapes has 7 around it
+abbrev pub needed_value : List ℕ → List ℕ
+needed_value text =
+    if starts_with nat_eq text (codes "text:") && nat_lt 65538 (length text) then codes "a text of at most 65531 bytes"
+    else (if nat_lt 49152 (length text)
+    then codes "a value, as u8:1 or text:\"a\", of at most 65536 bytes as it is encoded"
+    else codes "a value, as u8:1 or text:\"a\"")

@@ -6,11 +6,18 @@ ghost use Rattle.per_words.specs.Flaws.{flaw_in};
 ghost use Rattle.per_reasons.specs.Reasons.{IsNeededText, IsWordText, SaysNoCall, column_text, ending_text};
 ghost use Rattle.per_reasons.specs.Reasons.{needed_text, no_line_text, wrong_part};
 ghost use Rattle.per_reasons.specs.Numbers.{after_minus, begins_with_digit, bounds_text, has_leading_zero};
-ghost use Rattle.per_reasons.specs.Numbers.{magnitude_in, needed_number, type_length};
+ghost use Rattle.per_reasons.specs.Numbers.{leads_with_zero, magnitude_in, needed_digits, needed_number, needed_value};
+ghost use Rattle.per_reasons.specs.Numbers.{type_length};
 
 use crate::words::{dots_after, word_shown};
 use per_words::{Needed, flaw_in, leading_number};
 use std::alloc::{AllocError, Global};
+
+/// How many bytes a text has at most that spells a value which is a text without escapes.
+const LONGEST_TEXT: usize = 65_538;
+
+/// How many bytes a text may have that spells no value which is too long.
+const SHORT_VALUE: usize = 49_152;
 
 /// Why a text is no line, in words: the first of its words that is not what is needed there, by its column, or its end.
 /// Nothing where no word is wrong.
@@ -83,6 +90,13 @@ pub fn why_no_call(alloc: Global, line: &[u8]) -> Result<Option<String>, AllocEr
     }
 }
 
+/// Why a text is that of no value, in words, as [`why_no_call`] says it of a call with this value.
+pub(crate) fn why_no_value(alloc: Global, text: &[u8]) -> Result<Option<String>, AllocError> {
+    let mut line = Vec::from_slice(alloc, b"0 set k a ")?;
+    line.extend_from_slice(text)?;
+    why_no_call(alloc, line.as_slice())
+}
+
 /// The part of a text that is wrong, where this is needed at its beginning: of a value a number alone.
 fn wrong_part(needed: Needed, text: &[u8]) -> &[u8]
     ensures { result.now ≡ wrong_part needed text.now }
@@ -124,10 +138,10 @@ fn needed_text(needed: Needed, text: &[u8]) -> Option<&'static str>
         Needed::Application => Some("an application, 0 to 7, or now or end"),
         Needed::CallWord => Some("the word of a call"),
         Needed::Name => Some("a name of 1 to 255 ASCII letters, digits, _, -, . or /"),
-        Needed::Handle => Some("the number of a handle"),
-        Needed::Number => Some("a number"),
+        Needed::Handle => Some(needed_digits(text, "the number of a handle")),
+        Needed::Number => Some(needed_digits(text, "a number from 0 to 18446744073709551615")),
         Needed::TypeText => Some("a type, as u8"),
-        Needed::ValueText => Some("a value, as u8:1 or text:\"a\""),
+        Needed::ValueText => Some(needed_value(text)),
         Needed::TypedNumber => Some(needed_number(text)),
         Needed::Octets => Some("bytes in two hexadecimal digits each, as 00ff"),
         Needed::Octet => Some("a byte in two hexadecimal digits, as 0a"),
@@ -137,8 +151,35 @@ fn needed_text(needed: Needed, text: &[u8]) -> Option<&'static str>
             "none, or some of begin, end, truncate, append in this order, joined by +",
         ),
         Needed::Origin => Some("begin, current or end"),
-        Needed::Offset => Some("a number, as 1 or -1"),
+        Needed::Offset => Some(needed_digits(
+            after_minus(text),
+            "a number from -9223372036854775808 to 9223372036854775807, as 1 or -1",
+        )),
         Needed::End => None,
+    }
+}
+
+/// Digits in the place of this text, where a number has this need.
+fn needed_digits(text: &[u8], needed: &'static str) -> &'static str
+    ensures { result.now ≡ needed_digits text.now needed.now }
+{
+    if leads_with_zero(text) {
+        "a number without leading zeros"
+    } else {
+        needed
+    }
+}
+
+/// A value in the place of this text, with its bound where the text may spell a longer one.
+fn needed_value(text: &[u8]) -> &'static str
+    ensures { result.now ≡ needed_value text.now }
+{
+    if text.starts_with(b"text:") && text.len() > LONGEST_TEXT {
+        "a text of at most 65531 bytes"
+    } else if text.len() > SHORT_VALUE {
+        "a value, as u8:1 or text:\"a\", of at most 65536 bytes as it is encoded"
+    } else {
+        "a value, as u8:1 or text:\"a\""
     }
 }
 
@@ -157,7 +198,14 @@ fn needed_number(text: &[u8]) -> &'static str
 fn has_leading_zero(text: &[u8]) -> bool
     ensures { result ≡ has_leading_zero text.now }
 {
-    match magnitude_in(text).split_first() {
+    leads_with_zero(magnitude_in(text))
+}
+
+/// Whether a zero stands first, before another digit.
+fn leads_with_zero(text: &[u8]) -> bool
+    ensures { result ≡ leads_with_zero text.now }
+{
+    match text.split_first() {
         Some((zero, rest)) => *zero == b'0' && begins_with_digit(rest),
         None => false,
     }

@@ -1,14 +1,17 @@
 //! Which rule a manifest breaks, in words.
 
 ghost use Rattle.std.specs.Prelude.{◌≡◌, IfOk, option_map, string_bytes};
-ghost use Rattle.per_reasons.specs.Reasons.{IsRuleText, end_text, place_text};
+ghost use Rattle.per_reasons.specs.Reasons.{IsRuleText, end_text, initial_text, place_text};
 ghost use Rattle.per_reasons.specs.Rules.{rule_text};
 
-use crate::blame::{blamed, end_of_json};
+use crate::blame::{blamed, end_of_json, why_initial};
 use std::alloc::{AllocError, Global};
 
 /// The rule that a manifest is JSON.
 const IS_JSON: u32 = 2;
+
+/// The rule of initial contents.
+pub(crate) const OF_INITIALS: u32 = 22;
 
 /// Which rule a manifest breaks, where, and what the rule says.
 pub(crate) fn why_rejected(alloc: Global, rule: u32, manifest: &[u8]) -> Result<String, AllocError>
@@ -16,7 +19,8 @@ pub(crate) fn why_rejected(alloc: Global, rule: u32, manifest: &[u8]) -> Result<
 {
     let place = place_text(alloc, blamed(alloc, manifest, rule)?)?;
     let broken = rule_text(rule);
-    let end = end_text(alloc, rule, end_of_json(alloc, manifest))?;
+    let why = why_initial(alloc, manifest, rule)?;
+    let end = end_text(alloc, rule, end_of_json(alloc, manifest), why)?;
     format!(in alloc; "the manifest breaks rule {rule}{place}{broken}{end}")
 }
 
@@ -30,14 +34,31 @@ fn place_text(alloc: Global, part: Option<String>) -> Result<String, AllocError>
     }
 }
 
-/// Which byte of the manifest shows that it is no JSON, where the rule is this.
-fn end_text(alloc: Global, rule: u32, byte: usize) -> Result<String, AllocError>
-    ensures { IfOk result (λ text. string_bytes text ≡ end_text rule byte) }
+/// Which byte of the manifest shows that it is no JSON, or what is wrong with an initial value, where the rule is this.
+fn end_text(
+    alloc: Global,
+    rule: u32,
+    byte: usize,
+    why: Option<String>,
+) -> Result<String, AllocError>
+    ensures { IfOk result (λ text. string_bytes text ≡ end_text rule byte (option_map string_bytes why)) }
 {
     if rule == IS_JSON {
         format!(in alloc; ", which its byte {byte} shows")
+    } else if rule == OF_INITIALS {
+        initial_text(alloc, why)
     } else {
         Ok(String::new(alloc))
+    }
+}
+
+/// What is wrong with an initial value, where it is known.
+fn initial_text(alloc: Global, why: Option<String>) -> Result<String, AllocError>
+    ensures { IfOk result (λ text. string_bytes text ≡ initial_text (option_map string_bytes why)) }
+{
+    match why {
+        Some(why) => format!(in alloc; "; {why}"),
+        None => Ok(String::new(alloc)),
     }
 }
 
