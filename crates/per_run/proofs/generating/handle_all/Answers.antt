@@ -2,6 +2,7 @@
 use Rattle.std.proofs.Common.{ℕ, List, [], ◌++◌, length, ◌≡◌, ◌≤◌, ◌<◌, ◌+◌, ◌^◌, refl, sym, ◌∙◌, ap, arith}
 use Rattle.std.proofs.lemmas.Result.{on_err_weaker, on_ok_weaker}
 use Rattle.command_text.specs.Generated.{first_lines, generated, generated_lines, last_lines}
+use Rattle.per_run.proofs.Prepared.{on_err}
 use Rattle.per_run.proofs.Tallied.{begin_as, begin_here, begin_less, counted_along, length_all, texts_of}
 use Rattle.per_run.proofs.generating.handle_all.Goals as goal
 
@@ -40,20 +41,20 @@ returns-clause-counted g c =
 
 -- memory ran out in the first lines, in those between, or in the last ones
 pub returns-in_err-handle_each-clause-short : goal.returns-in_err-handle_each-clause-short
-returns-in_err-handle_each-clause-short g c = λ laws start none.
+returns-in_err-handle_each-clause-short g c = on_err _ (λ laws start none.
     let firsts : texts_of c.as_slice.result.now ≡ first_lines =
     ap texts_of c.as_slice.ensures ∙ c.first_lines.ensures in
     c.in_err-handle_each.ensures.short laws start [] (generated c.args.number) (few_first _ firsts) none
-    (begin_as _ _ _ (sym firsts) (begin_less first_lines _ _ (begin_less _ last_lines _ (begin_here _))))
+    (begin_as _ _ _ (sym firsts) (begin_less first_lines _ _ (begin_less _ last_lines _ (begin_here _)))))
 
 pub returns-in_err-handle_generated-clause-short : goal.returns-in_err-handle_generated-clause-short
-returns-in_err-handle_generated-clause-short g c = λ laws start none.
+returns-in_err-handle_generated-clause-short g c = on_err _ (λ laws start none.
     let firsts : texts_of c.as_slice.result.now ≡ first_lines =
     ap texts_of c.as_slice.ensures ∙ c.first_lines.ensures in
     c.in_err-handle_generated.ensures.short laws start first_lines (generated c.args.number)
     (few_between c.args.number c.requires.number)
     (counted_along _ _ _ _ _ _ _ _ _ (sym firsts) (c.in_ok-handle_each.ensures.counted start [] (few_first _ firsts)
-    none)) (begin_less _ last_lines _ (begin_here _))
+    none)) (begin_less _ last_lines _ (begin_here _)))
 
 pub returns-clause-short : goal.returns-clause-short
 returns-clause-short g c =
