@@ -127,10 +127,12 @@ stopped_so (inl three) = endings.device
 stopped_so (inr four) = endings.start_memory
 
 stopped_by : {status : ℕ} (is : (status ≡ 3) ⊎ (status ≡ 4)) → status ≡ endings.ending_status (stopped_so is)
+unfolding stopped_so
 stopped_by (inl three) = three
 stopped_by (inr four) = four
 
 not_begun : {status : ℕ} (is : (status ≡ 3) ⊎ (status ≡ 4)) → endings.HasStarted (stopped_so is) → ⊥
+unfolding stopped_so
 not_begun (inl three) begun = begun
 not_begun (inr four) begun = begun
 
@@ -265,12 +267,14 @@ handled_so (inr (inr six)) = endings.sink
 
 handled_by : {status : ℕ} {Cause : Type 0} (is : (status ≡ 0) ⊎ ((status ≡ 4) ⊎ ((status ≡ 6) × Cause)))
     → status ≡ endings.ending_status (handled_so is)
+unfolding handled_so
 handled_by (inl done) = done
 handled_by (inr (inl four)) = four
 handled_by (inr (inr six)) = six.0
 
 handled_begun : {status : ℕ} {Cause : Type 0} (is : (status ≡ 0) ⊎ ((status ≡ 4) ⊎ ((status ≡ 6) × Cause)))
     → endings.HasStarted (handled_so is)
+unfolding handled_so
 handled_begun (inl done) = tt
 handled_begun (inr (inl four)) = tt
 handled_begun (inr (inr six)) = tt
