@@ -71,7 +71,8 @@ lists_none told form status now old new is stays failed = record {
 
 pub recovers_none : (told : Bool) (app status : ℕ) (now : Option (List ℕ)) (old new : Medium)
     → (status ≡ 3) ⊎ (status ≡ 4) → (IsTrue told → RecoveryKeeps app old new)
-    → new.written ≤ old.written + most_written → FailsAtThree status old.faults new.faults → Recovers told app status now now old new
+    → new.written ≤ old.written + most_written → FailsAtThree status old.faults new.faults
+    → Recovers told app status now now old new
 recovers_none told app status now old new is keeps cost failed = record {
   row = none_left;
   ended = λ tells came. absurd (not_done status is came);

@@ -127,10 +127,12 @@ stopped_so (inl three) = endings.device
 stopped_so (inr four) = endings.start_memory
 
 stopped_by : {status : ℕ} (is : (status ≡ 3) ⊎ (status ≡ 4)) → status ≡ endings.ending_status (stopped_so is)
+unfolding stopped_so
 stopped_by (inl three) = three
 stopped_by (inr four) = four
 
 not_begun : {status : ℕ} (is : (status ≡ 3) ⊎ (status ≡ 4)) → endings.HasStarted (stopped_so is) → ⊥
+unfolding stopped_so
 not_begun (inl three) begun = begun
 not_begun (inr four) begun = begun
 
@@ -265,12 +267,14 @@ handled_so (inr (inr six)) = endings.sink
 
 handled_by : {status : ℕ} {Cause : Type 0} (is : (status ≡ 0) ⊎ ((status ≡ 4) ⊎ ((status ≡ 6) × Cause)))
     → status ≡ endings.ending_status (handled_so is)
+unfolding handled_so
 handled_by (inl done) = done
 handled_by (inr (inl four)) = four
 handled_by (inr (inr six)) = six.0
 
 handled_begun : {status : ℕ} {Cause : Type 0} (is : (status ≡ 0) ⊎ ((status ≡ 4) ⊎ ((status ≡ 6) × Cause)))
     → endings.HasStarted (handled_so is)
+unfolding handled_so
 handled_begun (inl done) = tt
 handled_begun (inr (inl four)) = tt
 handled_begun (inr (inr six)) = tt
@@ -284,39 +288,39 @@ pub generates_all : {Cause : Type 0} (told : Bool) (rules : List Rule) (answers 
     → Generates told rules answers n status before now old new
 generates_all told rules answers n status before now memory after tally old middle begun new b counted writes
     is = record {
-  ending = handled_so is;
-  status_is = handled_by is;
-  lines = generated n;
-  first = ([], sym (append-nil (generated n)));
-  whole = λ done. refl;
-  turns = counted.turns;
-  gives = counted.gives;
-  output = subst (λ (k : ℕ). WritesOutput status before now (summary k (replies_of counted.turns))) (sym (length_all n))
-      writes;
-  failures = counts_whole (subst (λ (n : ℕ). AreBlamed n counted.turns new.faults) b.passes counted.goes.blamed);
-  follow = λ tells.
-      let g : IsGoing rules answers middle counted.turns after new = counted.goes.disk tells in
-      follow_from rules answers (after_start (world_at middle.image)) formatted counted.turns (here tells) g.2.follow;
-  bounded = λ tells.
-      let g : IsGoing rules answers middle counted.turns after new = counted.goes.disk tells in record {
-        begun = g.2.begun;
-        starts = formats_on old middle g.2.begun (b.roots tells) b.written (b.bare tells) g.2.starts.roots
-            g.2.starts.written;
-        bounded = subst (λ (w : World). AreBounded rules answers w g.2.begun counted.turns) (here tells) g.2.bounded;
-        held = λ done. g.2.held;
-        left = inl g.2.held;
-      };
-  settled = λ tells done.
-      let g : IsGoing rules answers middle counted.turns after new = counted.goes.disk tells in
-      subst (λ (w : World). IsSettled (last_of w (worlds_of counted.turns)) new) (here tells)
-      (ends_settled rules answers (world_at middle.image) (after_start (world_at middle.image))
-      (begins_calm middle.image)
-      counted.turns after g.0 middle new g.2);
-  unbegun = λ open_end. absurd (open_end (handled_begun is));
-  clean = λ tells started app lt calm passes.
-      let g : IsGoing rules answers middle counted.turns after new = counted.goes.disk tells in
-      (g.2.stayed app lt (b.clean tells app lt) calm).ready.clean;
-}
+      ending = handled_so is;
+      status_is = handled_by is;
+      lines = generated n;
+      first = ([], sym (append-nil (generated n)));
+      whole = λ done. refl;
+      turns = counted.turns;
+      gives = counted.gives;
+      output = subst (λ (k : ℕ). WritesOutput status before now (summary k (replies_of counted.turns))) (sym (length_all n))
+          writes;
+      failures = counts_whole (subst (λ (n : ℕ). AreBlamed n counted.turns new.faults) b.passes counted.goes.blamed);
+      follow = λ tells.
+          let g : IsGoing rules answers middle counted.turns after new = counted.goes.disk tells in
+          follow_from rules answers (after_start (world_at middle.image)) formatted counted.turns (here tells) g.2.follow;
+      bounded = λ tells.
+          let g : IsGoing rules answers middle counted.turns after new = counted.goes.disk tells in record {
+            begun = g.2.begun;
+            starts = formats_on old middle g.2.begun (b.roots tells) b.written (b.bare tells) g.2.starts.roots
+                g.2.starts.written;
+            bounded = subst (λ (w : World). AreBounded rules answers w g.2.begun counted.turns) (here tells) g.2.bounded;
+            held = λ done. g.2.held;
+            left = inl g.2.held;
+          };
+      settled = λ tells done.
+          let g : IsGoing rules answers middle counted.turns after new = counted.goes.disk tells in
+          subst (λ (w : World). IsSettled (last_of w (worlds_of counted.turns)) new) (here tells)
+          (ends_settled rules answers (world_at middle.image) (after_start (world_at middle.image))
+          (begins_calm middle.image)
+          counted.turns after g.0 middle new g.2);
+      unbegun = λ open_end. absurd (open_end (handled_begun is));
+      clean = λ tells started app lt calm passes.
+          let g : IsGoing rules answers middle counted.turns after new = counted.goes.disk tells in
+          (g.2.stayed app lt (b.clean tells app lt) calm).ready.clean;
+    }
   where
     here : IsTrue told → after_start (world_at middle.image) ≡ formatted
     here tells = ap after_start (b.world tells) ∙ start_formatted

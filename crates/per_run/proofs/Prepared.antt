@@ -10,6 +10,7 @@ use Rattle.disk_model.specs.Medium.{Medium, IsLawful, Elapses, OnlyReads}
 use Rattle.migrate_fns.specs.Rules.{Rule, Answers}
 use Rattle.deploy.specs.declared.errors.Stop.{Stop}
 use Rattle.deploy_laws.specs.Apps.{IsCleanApp}
+use Rattle.run_model.specs.AppLaws.{AppLaws}
 use Rattle.run_model.specs.Costs.{roots_cost}
 use Rattle.run_model.specs.Endings as endings
 use Rattle.run_model.specs.Endings.{HasCauseOf, HasStarted, ending_status}

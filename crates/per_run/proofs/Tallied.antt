@@ -245,11 +245,19 @@ few_generated before n i few lt = omega (
   length_lines i 1 n,
 )
 
+none_more : (b : ℕ) → 0 + b ≡ b
+none_more b = omega arith
+
+one_more : (a b : ℕ) → suc a + b ≡ suc (a + b)
+one_more a b = omega arith
+
 -- the first of them are lines before the others
 lines_split : (a b i x : ℕ) → generated_lines (a + b) i x
     ≡ generated_lines a i x ++ generated_lines b (i + a) (number_after x a)
-lines_split zero b i x = ap (λ (k : ℕ). generated_lines b k x) (place_none i)
-lines_split (suc a) b i x = ap (λ (ls : List (List ℕ)). generated_line (next_number x) i ∷ ls)
+lines_split zero b i x = ap (λ (n : ℕ). generated_lines n i x) (none_more b)
+    ∙ ap (λ (k : ℕ). generated_lines b k x) (place_none i)
+lines_split (suc a) b i x = ap (λ (n : ℕ). generated_lines n i x) (one_more a b)
+    ∙ ap (λ (ls : List (List ℕ)). generated_line (next_number x) i ∷ ls)
     (lines_split a b (i + 1) (next_number x)
     ∙ ap (λ (k : ℕ). generated_lines a (i + 1) (next_number x)
     ++ generated_lines b k (number_after (next_number x) a)) (place_more i a))

@@ -200,7 +200,8 @@ pub data IsPreparedDisk {D : Type 0} (told : Bool) (medium : D → Medium) (old 
 -- nothing changed
 abbrev pub HadNothing : {D : Type 0} → (told : Bool) → (medium : D → Medium) → (old new : D) → Type 0
 HadNothing told medium old new = ((IsTrue told → HasNoBytes (medium old).image)
-    × (IsTrue told → FormatsWithin (bytes_now (medium old)) (bytes_now (medium new)))) ⊎ OnlyReads (medium old) (medium new)
+    × (IsTrue told → FormatsWithin (bytes_now (medium old)) (bytes_now (medium new))))
+    ⊎ OnlyReads (medium old) (medium new)
 
 -- A run that stays went over the disk that was prepared; or that was empty or could not be read, and the runtime did
 -- not start: no line was taken and nothing written.

@@ -1,7 +1,7 @@
 //! The job that handles a synthetic workload, generated from a number.
 
 ghost use Rattle.std.specs.Prelude.{◌≡◌, ◌⊎◌, ◌≤◌, ◌<◌, ◌+◌, ◌++◌, ◌^◌, ℕ, List, [], ◌∷◌, IfOk, IsErrOf, OnOk};
-ghost use Rattle.std.specs.Prelude.{IsTrue, OnErr, length, map};
+ghost use Rattle.std.specs.Prelude.{IsErr, IsTrue, length, map};
 ghost use Rattle.disk_model.specs.Medium.{Elapses};
 ghost use Rattle.migrate_fns.specs.Stored.{answers_of, rules_of};
 ghost use Rattle.per_base.specs.Causes.{Rose};
@@ -137,11 +137,11 @@ fn handle_all<D: Disk>(
         → Counted D.told (rules_of migrations.now) (answers_of migrations.now) (D.medium start) (generated number)
         (memory_of batch.new.runtime) batch.new.tally (D.medium disk.new)) }
     // Where memory ran out, it did so between commands or in one.
-    ensures short { OnErr result (AppLaws → (start : D) → Counted D.told (rules_of migrations.now)
+    ensures short { IsErr result → AppLaws → (start : D) → Counted D.told (rules_of migrations.now)
         (answers_of migrations.now) (D.medium start) [] (memory_of batch.old.runtime) batch.old.tally
         (D.medium disk.old)
         → RunsShort D.told (rules_of migrations.now) (answers_of migrations.now) (D.medium start)
-        (generated number) (D.medium disk.new)) }
+        (generated number) (D.medium disk.new) }
     ensures time { Elapses (D.medium disk.old) (D.medium disk.new) }
 {
     handle_each(alloc, batch, migrations, disk, first_lines().as_slice())?;
@@ -167,13 +167,13 @@ fn handle_each<D: Disk>(
         (before ++ map (λ line. line.now) lines.now) (memory_of batch.new.runtime) batch.new.tally
         (D.medium disk.new)) }
     // Where memory ran out, it did so between commands or in one, of any lines that begin with those before and these.
-    ensures short { OnErr result (AppLaws → (start : D) (before all : List (List ℕ))
+    ensures short { IsErr result → AppLaws → (start : D) (before all : List (List ℕ))
         → length (before ++ map (λ line. line.now) lines.now) < 2 ^ 32
         → Counted D.told (rules_of migrations.now) (answers_of migrations.now)
         (D.medium start) before (memory_of batch.old.runtime) batch.old.tally (D.medium disk.old)
         → BeginWith (before ++ map (λ line. line.now) lines.now) all
         → RunsShort D.told (rules_of migrations.now) (answers_of migrations.now) (D.medium start) all
-        (D.medium disk.new)) }
+        (D.medium disk.new) }
     ensures memory { OnOk result (IsRuntime D.told (D.medium disk.new) batch.new.runtime) }
     ensures time { Elapses (D.medium disk.old) (D.medium disk.new) }
 {
@@ -201,13 +201,13 @@ fn handle_generated<D: Disk>(
         (before ++ generated_lines number 1 number) (memory_of batch.new.runtime) batch.new.tally
         (D.medium disk.new)) }
     // Where memory ran out, it did so between commands or in one, of any lines that begin with those before and these.
-    ensures short { OnErr result (AppLaws → (start : D) (before all : List (List ℕ))
+    ensures short { IsErr result → AppLaws → (start : D) (before all : List (List ℕ))
         → length before + number < 2 ^ 32
         → Counted D.told (rules_of migrations.now) (answers_of migrations.now)
         (D.medium start) before (memory_of batch.old.runtime) batch.old.tally (D.medium disk.old)
         → BeginWith (before ++ generated_lines number 1 number) all
         → RunsShort D.told (rules_of migrations.now) (answers_of migrations.now) (D.medium start) all
-        (D.medium disk.new)) }
+        (D.medium disk.new) }
     ensures memory { OnOk result (IsRuntime D.told (D.medium disk.new) batch.new.runtime) }
     ensures time { Elapses (D.medium disk.old) (D.medium disk.new) }
 {
@@ -236,12 +236,12 @@ fn handle_one<D: Disk>(
         → Counted D.told (rules_of migrations.now) (answers_of migrations.now) (D.medium start)
         (before ++ line.now ∷ []) (memory_of batch.new.runtime) batch.new.tally (D.medium disk.new)) }
     // Where memory ran out, it did so between commands or in one, of any lines that begin with those before and this.
-    ensures short { OnErr result (AppLaws → (start : D) (before all : List (List ℕ))
+    ensures short { IsErr result → AppLaws → (start : D) (before all : List (List ℕ))
         → Counted D.told (rules_of migrations.now) (answers_of migrations.now)
         (D.medium start) before (memory_of batch.old.runtime) batch.old.tally (D.medium disk.old)
         → BeginWith (before ++ line.now ∷ []) all
         → RunsShort D.told (rules_of migrations.now) (answers_of migrations.now) (D.medium start) all
-        (D.medium disk.new)) }
+        (D.medium disk.new) }
     ensures memory { OnOk result (IsRuntime D.told (D.medium disk.new) batch.new.runtime) }
     ensures time { Elapses (D.medium disk.old) (D.medium disk.new) }
 {

@@ -1,4 +1,5 @@
 -- All lines are handled and counted; or memory ran out.
+use Rattle.std.proofs.Common.{refl}
 use Rattle.run_model.specs.Turns.{replies_of}
 use Rattle.per_run.proofs.Fresh.{counted_none, generates_all, generates_short}
 use Rattle.per_run.proofs.generating.generate_on.Goals as goal
@@ -12,4 +13,4 @@ returns-in-Ok-clause-job g c = λ old middle begun.
 pub returns-clause-job : goal.returns-clause-job
 returns-clause-job g c = λ old middle begun.
     generates_short _ _ _ c.args.number _ _ _ _ _ _ begun
-    (c.in-Err.ensures.short c.applications_stand.ensures middle (counted_none _ _ _ _ _ _ _ _ begun c.new.ensures))
+    (c.in-Err.ensures.short refl c.applications_stand.ensures middle (counted_none _ _ _ _ _ _ _ _ begun c.new.ensures))

@@ -1,6 +1,6 @@
 -- The first lines, those between, and the last ones.
 use Rattle.std.proofs.Common.{ℕ, List, [], ◌++◌, length, ◌≡◌, ◌≤◌, ◌<◌, ◌+◌, ◌^◌, refl, sym, ◌∙◌, ap, arith}
-use Rattle.std.proofs.lemmas.Result.{on_err_weaker, on_ok_weaker}
+use Rattle.std.proofs.lemmas.Result.{on_ok_weaker}
 use Rattle.command_text.specs.Generated.{first_lines, generated, generated_lines, last_lines}
 use Rattle.per_run.proofs.Tallied.{begin_as, begin_here, begin_less, counted_along, length_all, texts_of}
 use Rattle.per_run.proofs.generating.handle_all.Goals as goal
@@ -40,32 +40,33 @@ returns-clause-counted g c =
 
 -- memory ran out in the first lines, in those between, or in the last ones
 pub returns-in_err-handle_each-clause-short : goal.returns-in_err-handle_each-clause-short
-returns-in_err-handle_each-clause-short g c = λ laws start none.
+returns-in_err-handle_each-clause-short g c = λ err laws start none.
     let firsts : texts_of c.as_slice.result.now ≡ first_lines =
     ap texts_of c.as_slice.ensures ∙ c.first_lines.ensures in
-    c.in_err-handle_each.ensures.short laws start [] (generated c.args.number) (few_first _ firsts) none
-    (begin_as _ _ _ (sym firsts) (begin_less first_lines _ _ (begin_less _ last_lines _ (begin_here _))))
+    c.in_err-handle_each.ensures.short refl laws start [] (generated c.args.number) (few_first _ firsts) none
+    (begin_as _ _ _ (sym firsts) (begin_less first_lines (generated_lines c.args.number 1 c.args.number) _
+    (begin_less (first_lines ++ generated_lines c.args.number 1 c.args.number) last_lines _ (begin_here _))))
 
 pub returns-in_err-handle_generated-clause-short : goal.returns-in_err-handle_generated-clause-short
-returns-in_err-handle_generated-clause-short g c = λ laws start none.
+returns-in_err-handle_generated-clause-short g c = λ err laws start none.
     let firsts : texts_of c.as_slice.result.now ≡ first_lines =
     ap texts_of c.as_slice.ensures ∙ c.first_lines.ensures in
-    c.in_err-handle_generated.ensures.short laws start first_lines (generated c.args.number)
+    c.in_err-handle_generated.ensures.short refl laws start first_lines (generated c.args.number)
     (few_between c.args.number c.requires.number)
     (counted_along _ _ _ _ _ _ _ _ _ (sym firsts) (c.in_ok-handle_each.ensures.counted start [] (few_first _ firsts)
-    none)) (begin_less _ last_lines _ (begin_here _))
+    none)) (begin_less (first_lines ++ generated_lines c.args.number 1 c.args.number) last_lines _ (begin_here _))
 
 pub returns-clause-short : goal.returns-clause-short
-returns-clause-short g c =
+returns-clause-short g c = λ err laws start none.
     let firsts : texts_of c.as_slice.result.now ≡ first_lines =
     ap texts_of c.as_slice.ensures ∙ c.first_lines.ensures in
     let lasts : texts_of c.as_slice-2.result.now ≡ last_lines =
     ap texts_of c.as_slice-2.ensures ∙ c.last_lines.ensures in
-    on_err_weaker c.handle_each-2.result (λ short laws start none.
-    short laws start (first_lines ++ generated_lines c.args.number 1 c.args.number) (generated c.args.number)
+    c.handle_each-2.ensures.short err laws start
+    (first_lines ++ generated_lines c.args.number 1 c.args.number) (generated c.args.number)
     (few_all c.args.number _ c.requires.number lasts)
     (c.in_ok-handle_generated.ensures.counted start first_lines (few_between c.args.number c.requires.number)
     (counted_along _ _ _ _ _ _ _ _ _ (sym firsts) (c.in_ok-handle_each.ensures.counted start [] (few_first _ firsts)
     none)))
     (begin_as _ _ _ (ap (λ (ls : List (List ℕ)). (first_lines ++ generated_lines c.args.number 1 c.args.number) ++ ls)
-    (sym lasts)) (begin_here _))) c.handle_each-2.ensures.short
+    (sym lasts)) (begin_here _))

@@ -33,7 +33,7 @@ returns-clause-counted g c =
 
 -- memory ran out for the text of a line
 pub returns-in_err-line-clause-short : goal.returns-in_err-line-clause-short
-returns-in_err-line-clause-short g c = λ laws start before all few counted begin.
+returns-in_err-line-clause-short g c = λ err laws start before all few counted begin.
     short_between _ _ _ _ laws (before ++ generated_lines c.loop-index.index 1 c.args.number) all _ _ _
     (c.loop-index.invariant.counts start before few counted)
     (begin_less (before ++ generated_lines c.loop-index.index 1 c.args.number) _ all
@@ -43,8 +43,8 @@ returns-in_err-line-clause-short g c = λ laws start before all few counted begi
 
 -- or at the line
 pub returns-in_err-handle_one-clause-short : goal.returns-in_err-handle_one-clause-short
-returns-in_err-handle_one-clause-short g c = λ laws start before all few counted begin.
-    c.in_err-handle_one.ensures.short laws start (before ++ generated_lines c.loop-index.index 1 c.args.number) all
+returns-in_err-handle_one-clause-short g c = λ err laws start before all few counted begin.
+    c.in_err-handle_one.ensures.short refl laws start (before ++ generated_lines c.loop-index.index 1 c.args.number) all
     (c.loop-index.invariant.counts start before few counted)
     (begin_as _ _ all (generated_on before c.args.number c.loop-index.index c.loop-index.x _
     c.loop-index.invariant.number
