@@ -19,8 +19,12 @@ pub(crate) fn why_rejected(alloc: Global, rule: u32, manifest: &[u8]) -> Result<
 {
     let place = place_text(alloc, blamed(alloc, manifest, rule)?)?;
     let broken = rule_text(rule);
-    let why = why_initial(alloc, manifest, rule)?;
-    let end = end_text(alloc, rule, end_of_json(alloc, manifest), why)?;
+    let end = end_text(
+        alloc,
+        rule,
+        end_of_json(alloc, manifest),
+        why_initial(alloc, manifest, rule)?,
+    )?;
     format!(in alloc; "the manifest breaks rule {rule}{place}{broken}{end}")
 }
 
