@@ -25,7 +25,7 @@ stated start slot g text head same v =
     length-body slot g text v
     ∙ sym (ap (little_from 0 4) rest ∙ little_from-take 0 4 (n - 40) (drop 40 slot) (omega (arith, head)))
 
--- so many bytes of a slot tell what it holds as reach at least as far as its text
+-- the first `n` bytes of a slot tell what it holds when they reach at least as far as its text
 pub enough_tells : (n : ℕ) (slot : List ℕ) → ((g : ℕ) (text : List ℕ) → VerifiesAs slot g text → header + length text ≤ n)
     → verified (take n slot) ≡ verified slot
 enough_tells n slot enough = go (verified slot) refl

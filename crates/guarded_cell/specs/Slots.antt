@@ -16,7 +16,7 @@ use Rattle.guarded_cell.specs.Register.{IsBlank}
 abbrev pub front : ℕ
 front = 524288
 
--- a text has at most so many bytes in every slot that begins with `start`, which has a header
+-- the header and the text have at most `reach` bytes in every slot that begins with `start`, which has a header
 abbrev pub ReachesTo : (reach : ℕ) → (start : List ℕ) → Type 0
 ReachesTo reach start = header ≤ length start → (slot : List ℕ) → take (length start) slot ≡ start
     → (generation : ℕ) (text : List ℕ) → VerifiesAs slot generation text → header + length text ≤ reach
