@@ -34,7 +34,7 @@ use Rattle.run_model.specs.Steps.{root_opened, uses_device}
 use Rattle.run_model.specs.Turns.{IsBlamed, bytes_now}
 use Rattle.run_model.specs.Worlds.{Application, Disks, Doubt, World, app_of, disk_at, disks, is_to_open, update_in}
 use Rattle.run_model.specs.Worlds.{with_app, world_at}
-use Rattle.run_model.specs.Writes.{IsCallWithin, IsCommandWithin}
+use Rattle.run_model.specs.Writes.{IsCallWithin, IsCommandWithin, OnlyOpens, OpensAtMost}
 use Rattle.per_runtime.specs.storages.Answers.{CallsTo}
 use Rattle.per_runtime.specs.storages.Handled.{StaysInPlace}
 use Rattle.per_runtime.specs.declared.application.running.Running.{Running}
@@ -113,6 +113,7 @@ now_steps laws makes rules answers told m now t apps b tells lawful are quiet do
   place = λ f beside. refl;
   written = tt;
   within = tt;
+  refused = λ refused. tt;
   blamed = record { later = le_refl m.faults; cause = λ four. absurd (not_four four); passes = λ other. refl };
 }
 
@@ -192,6 +193,13 @@ module _ (laws : AppLaws) (rules : List Rule) (answers : Answers) (told : Bool) 
       (sym (it_is doubt))
       (subst (λ (k : ℕ). IsCallWithin rules answers k now (application old.image a) c (bytes_now old) (bytes_now new))
       number within)
+
+  opened_on : (doubt : Option Doubt) → OpensAtMost a.app (stage_in a.stage) (bytes_now old) (bytes_now new)
+      → OnlyOpens (before doubt) e (bytes_now old) (bytes_now new)
+  unfolding e before
+  opened_on doubt opens = subst (λ (r : Application). OpensAtMost n r.stage (bytes_now old) (bytes_now new))
+      (sym (it_is doubt))
+      (subst (λ (k : ℕ). OpensAtMost k (stage_in a.stage) (bytes_now old) (bytes_now new)) number opens)
 
   place_on : (doubt : Option Doubt) → Spares (IsBesideNamed (before doubt) e) old.image new.image
   unfolding e
@@ -330,6 +338,7 @@ module _ (laws : AppLaws) (rules : List Rule) (answers : Answers) (told : Bool) 
         place = place_on None;
         written = written_on None;
         within = within_on None;
+        refused = λ refused. opened_on None (h.refused tells refused);
         blamed = blamed_on reply h;
       }
 
@@ -382,6 +391,7 @@ module _ (laws : AppLaws) (rules : List Rule) (answers : Answers) (told : Bool) 
         place = place_on (Some d);
         written = written_on (Some d);
         within = within_on (Some d);
+        refused = λ refused. opened_on (Some d) (h.refused tells refused);
         blamed = blamed_on reply h;
       }
 
@@ -440,6 +450,7 @@ module _ (laws : AppLaws) (rules : List Rule) (answers : Answers) (told : Bool) 
         place = place_on None;
         written = written_on None;
         within = within_on None;
+        refused = λ refused. absurd (true≢false (sym refused));
         blamed = record { later = time.faults; cause = λ four. h.cause; passes = λ other. absurd (other refl) };
       }
 

@@ -31,7 +31,7 @@ use Rattle.run_model.specs.Sessions.{Session}
 use Rattle.run_model.specs.Steps.{AppStep, FailsAs, after_failure, calls_device, found_named, reaches_device}
 use Rattle.run_model.specs.Steps.{root_opened, uses_device}
 use Rattle.run_model.specs.Turns.{bytes_now}
-use Rattle.run_model.specs.WriteLaws.{call_behind, call_unbegun}
+use Rattle.run_model.specs.WriteLaws.{call_behind, call_unbegun, opens_alone, opens_nothing}
 use Rattle.run_model.specs.Worlds.{Application, Stage, Sessions, at_rest, is_to_open, none_open, to_open, update_in}
 use Rattle.run_model.specs.Writes.{IsCallWithin}
 use Rattle.per_runtime.specs.storages.Answers.{CallsTo}
@@ -88,6 +88,8 @@ called told rules answers now c a a' Untouched old new (Ok reply) rests said = r
   unfailed = said.unfailed;
   quiet = said.quiet;
   unwritten = λ refused closed. said.unwritten refused;
+  refused = λ tells refused. let none = said.unwritten refused in
+      opens_nothing a.app (stage_in a.stage) (bytes_now old) (bytes_now new) none.0 none.1;
   done = λ tells. let is = said.answered tells in record {
     step = row_step rules answers a.app now c (application old.image a) (application old.image a)
         (reply, application new.image a')
@@ -374,6 +376,10 @@ module _ (mend : RootMendLaw) (told : Bool) (rules : List Rule) (answers : Answe
       unfailed = h.unfailed;
       quiet = λ was. h.quiet quiet;
       unwritten = λ refused rests. not_in_use rests;
+      refused = λ tells refused.
+          let none = h.unwritten refused (ap (λ (r : memory.Running). is_to_open r.stage) opened) in
+          opens_alone a.app (stage_in a.stage) (bytes_now old) (bytes_now mid) (bytes_now new) marked
+          (opens tells).slots (opens tells).written none.0 none.1;
       done = λ tells. let d = h.done tells in record {
         step = step_on tells (reply, application new.image a') d.step;
         later = later_on (app_at new.image a'.app) tells d.later;

@@ -29,7 +29,7 @@ use Rattle.run_model.specs.Runtimes.{IsBesideNamed, WrittenBy, WritesWithin, cal
 use Rattle.run_model.specs.Runtimes.{writes_none}
 use Rattle.run_model.specs.Turns.{DiskBytes, IsBlamed, bytes_now}
 use Rattle.run_model.specs.WriteLaws.{command_unwritten}
-use Rattle.run_model.specs.Writes.{IsCommandWithin}
+use Rattle.run_model.specs.Writes.{IsCommandWithin, OnlyOpens}
 use Rattle.run_model.specs.Steps.{Leads, calls_device, doubt_after, failure}
 use Rattle.run_model.specs.Lasting.{IsWorld}
 use Rattle.run_model.specs.Worlds.{Application, Doubt, World, app_of, with_app, without_doubt}
@@ -144,6 +144,14 @@ module _ (rules : List Rule) (answers : Answers) (told : Bool) (n : ℕ) (c : Ca
         (subst (λ (w : World). IsCommandWithin rules answers w (event.App n c) (bytes_now mid) (bytes_now new)) synced_is
         is)
 
+    opened_on : OnlyOpens (world_of mid.image (sure m) None) (event.App n c) (bytes_now mid) (bytes_now new)
+        → OnlyOpens before (event.App n c) (bytes_now old) (bytes_now new)
+    unfolding before
+    opened_on is =
+        let same : bytes_now mid ≡ bytes_now old = same_bytes old mid nothing.image nothing.written in
+        subst (λ (b : DiskBytes). OnlyOpens (without_doubt before) (event.App n c) b (bytes_now new)) same
+        (subst (λ (w : World). OnlyOpens w (event.App n c) (bytes_now mid) (bytes_now new)) synced_is is)
+
     place_on : Spares (IsBesideNamed (world_of mid.image (sure m) None) (event.App n c)) mid.image new.image
         → Spares (IsBesideNamed before (event.App n c)) old.image new.image
     unfolding before
@@ -189,6 +197,7 @@ module _ (rules : List Rule) (answers : Answers) (told : Bool) (n : ℕ) (c : Ca
           place = place_on s.place;
           written = written_on s.written;
           within = within_on s.within;
+          refused = λ refused. opened_on (s.refused refused);
           blamed = blamed_behind reply old mid new time.faults passes s.blamed;
         }
 
@@ -256,6 +265,7 @@ module _ (rules : List Rule) (answers : Answers) (told : Bool) (n : ℕ) (c : Ca
         };
         within = command_unwritten rules answers before (event.App n c) (bytes_now old) (bytes_now mid) reads.image
             reads.written;
+        refused = λ refused. absurd (true≢false (sym refused));
         blamed = record { later = time.faults; cause = λ four. rose; passes = λ other. absurd (other refl) };
       }
 

@@ -20,7 +20,7 @@ use Rattle.run_model.specs.Calls.{Outcome, session_at}
 use Rattle.run_model.specs.Steps.{AppStep, FailsAs, calls_device, found_named}
 use Rattle.run_model.specs.Runtimes.{IsUnwritten, WritesWithin, is_refusal, is_durable, only_plans}
 use Rattle.run_model.specs.Turns.{bytes_now}
-use Rattle.run_model.specs.Writes.{IsCallWithin}
+use Rattle.run_model.specs.Writes.{IsCallWithin, OpensAtMost}
 use Rattle.per_runtime.specs.storages.Answers.{CallsTo}
 use Rattle.per_runtime.specs.storages.Handled.{StaysInPlace}
 use Rattle.per_runtime.specs.declared.application.running.Running.{Running}
@@ -65,6 +65,9 @@ pub record IsCommandAnswered (told : Bool) (rules : List Rule) (answers : Answer
   pub unfailed : reply.answer ≢ answer.Error error.PhysicalStorageFailure
   pub quiet : Quiet old → Quiet new
   pub unwritten : is_refusal reply.answer ≡ true → is_to_open (stage_in a.stage) ≡ false → IsUnwritten old new
+  -- a refused call writes nothing but the opening of its root
+  pub refused : IsTrue told → is_refusal reply.answer ≡ true
+      → OpensAtMost a.app (stage_in a.stage) (bytes_now old) (bytes_now new)
   pub done : IsTrue told → IsStepDone rules answers a.app now c (application old.image a)
       (application new.image a') reply
       old new

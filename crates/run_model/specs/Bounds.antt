@@ -1,26 +1,28 @@
 -- What each command of a run wrote at most, and which files it may have changed.
-use Rattle.std.specs.Prelude.{◌≡◌, ◌≤◌, ◌+◌, List, [], ◌∷◌, Bool, true, ⊤}
+use Rattle.std.specs.Prelude.{◌≡◌, ◌≤◌, ◌+◌, List, [], ◌∷◌, Bool, true, false, ⊤}
 use Rattle.disk_model.specs.Frame.{Spares}
 use Rattle.migrate_fns.specs.Rules.{Rule, Answers}
 use Rattle.command_text.specs.declared.calls.Event.{Event}
 use Rattle.run_model.specs.Costs.{roots_cost}
-use Rattle.run_model.specs.Runtimes.{CostsBy, IsBesideNamed, IsElsewhere, IsNoRoot, only_looks, writes_none}
+use Rattle.run_model.specs.Runtimes.{CostsBy, IsBesideNamed, IsElsewhere, IsNoRoot, is_refusal, only_looks}
+use Rattle.run_model.specs.Runtimes.{writes_none}
 use Rattle.run_model.specs.Turns.{DiskBytes, Turn}
 use Rattle.run_model.specs.Worlds.{World}
-use Rattle.run_model.specs.Writes.{IsCommandWithin}
+use Rattle.run_model.specs.Writes.{IsCommandWithin, OnlyOpens}
 
 -- One command, from the world before it: no file of another application changes, and where it names a storage none
 -- beside those of that storage; where it is one that writes `none`, no byte is written and reads give what they gave; a
 -- call that makes a session durable writes no more than what differs, and the next index; every call writes no more
--- than it costs (`call_cost`); and beside slots of the root no file changes but in the places of the storages that it
--- makes or names.
-pub record IsBounded (rules : List Rule) (answers : Answers) (w : World) (e : Event) (none : Bool) (old new : DiskBytes)
-    : Type 0 where
+-- than it costs (`call_cost`), and beside slots of the root no file changes but in the places of the storages that it
+-- makes or names; and one that is `refused` writes no more than the opening of its root, where that is to be opened.
+pub record IsBounded (rules : List Rule) (answers : Answers) (w : World) (e : Event) (none refused : Bool)
+    (old new : DiskBytes) : Type 0 where
   pub elsewhere : Spares (IsElsewhere e) old.image new.image
   pub place : Spares (IsBesideNamed w e) old.image new.image
   pub unwritten : none ≡ true → new ≡ old
   pub written : CostsBy w e old.written new.written
   pub within : IsCommandWithin rules answers w e old new
+  pub opens : refused ≡ true → OnlyOpens w e old new
   pub later : old.written ≤ new.written
 
 -- the start: only slots of roots change, and no more is written than the eight roots cost, each once
@@ -33,7 +35,7 @@ pub record StartsWithin (old new : DiskBytes) : Type 0 where
 abbrev pub AreBounded : List Rule → Answers → World → DiskBytes → List Turn → Type 0
 AreBounded rules answers w old [] = ⊤
 AreBounded rules answers w old (t ∷ ts) =
-    IsBounded rules answers w t.event (writes_none w t.event t.reply) old t.bytes
+    IsBounded rules answers w t.event (writes_none w t.event t.reply) (is_refusal t.reply.answer) old t.bytes
     × AreBounded rules answers t.world t.bytes ts
 
 -- the bytes after the last of them
@@ -43,4 +45,4 @@ bytes_after old (t ∷ ts) = bytes_after t.bytes ts
 
 -- a command in progress, of which no reply is known
 abbrev pub IsBegunWithin : List Rule → Answers → World → Event → (old new : DiskBytes) → Type 0
-IsBegunWithin rules answers w e old new = IsBounded rules answers w e (only_looks w e) old new
+IsBegunWithin rules answers w e old new = IsBounded rules answers w e (only_looks w e) false old new

@@ -3,7 +3,7 @@
 use Rattle.std.specs.Prelude.{◌≡◌, ◌⊎◌, ℕ, zero, suc, ◌+◌, ◌<◌, List, [], ◌∷◌, ◌++◌, length, map, Option, Some}
 use Rattle.std.specs.Prelude.{None, Bool, IsTrue, true, false}
 use Rattle.std.specs.List.{AllByRecursion}
-use Rattle.std.proofs.Common.{refl, sym, ap, ap₂, ◌∙◌, subst, le_trans, inl, inr, ⊎_elim, arith}
+use Rattle.std.proofs.Common.{refl, sym, ap, ap₂, ◌∙◌, subst, le_trans, inl, inr, ⊎_elim, arith, true≢false}
 use Rattle.std.specs.Io.KnownBytes.{Appends}
 use Rattle.disk_model.specs.Case.{Case}
 use Rattle.disk_model.specs.Laws.{elapses_on}
@@ -40,7 +40,7 @@ use Rattle.run_model.specs.Steps.{calls_device, doubt_after}
 use Rattle.run_model.specs.MomentLaws.{last_is, start_stays, step_stays, end_stays, stop_stays, sound_front}
 use Rattle.run_model.specs.KeepLaws.{rests}
 use Rattle.run_model.specs.Runtimes.{Running, Memory, with_disk, world_of, StepsOn, Stepped, Stopped, Starts}
-use Rattle.run_model.specs.Runtimes.{StartKeeps, IsUnwritten, writes_none}
+use Rattle.run_model.specs.Runtimes.{StartKeeps, IsUnwritten, is_refusal, writes_none}
 use Rattle.run_model.specs.Starting.{at_entry}
 use Rattle.run_model.specs.Bounds.{AreBounded, IsBounded, IsBegunWithin, StartsWithin, bytes_after}
 use Rattle.run_model.specs.Endings.{Ending, HasStarted, HasEnded, has_started}
@@ -238,7 +238,7 @@ after_on b (u ∷ us) t = after_on u.bytes us t
 bounded_on : (rules : List Rule) (answers : Answers) (w : World) (b : DiskBytes) (ts : List Turn) (t : Turn)
     → AreBounded rules answers w b ts
     → IsBounded rules answers (last_of w (worlds_of ts)) t.event
-    (writes_none (last_of w (worlds_of ts)) t.event t.reply) (bytes_after b ts) t.bytes
+    (writes_none (last_of w (worlds_of ts)) t.event t.reply) (is_refusal t.reply.answer) (bytes_after b ts) t.bytes
     → AreBounded rules answers w b (ts ++ t ∷ [])
 bounded_on rules answers w b [] t are is = (is, tt)
 bounded_on rules answers w b (u ∷ us) t are is = (are.0, bounded_on rules answers u.world u.bytes us t are.1 is)
@@ -253,19 +253,21 @@ module _ (rules : List Rule) (answers : Answers) (entry start : World) (calm : s
       → (going : Going rules answers entry start turns memory doubt old now)
       → Stepped rules answers e reply memory memory' doubt now new
       → IsBounded rules answers (last_of start (worlds_of turns)) e
-      (writes_none (last_of start (worlds_of turns)) e reply)
+      (writes_none (last_of start (worlds_of turns)) e reply) (is_refusal reply.answer)
       (bytes_after going.begun turns) (bytes_now new)
   bounded_here turns e reply memory memory' doubt old now new time going s =
-      subst (λ (w : World). IsBounded rules answers w e (writes_none w e reply) (bytes_after going.begun turns)
-      (bytes_now new))
+      subst (λ (w : World). IsBounded rules answers w e (writes_none w e reply) (is_refusal reply.answer)
+      (bytes_after going.begun turns) (bytes_now new))
       (sym going.last)
       (subst (λ (b : DiskBytes). IsBounded rules answers (world_of now.image memory doubt) e
-      (writes_none (world_of now.image memory doubt) e reply) b (bytes_now new)) going.held (record {
+      (writes_none (world_of now.image memory doubt) e reply) (is_refusal reply.answer) b (bytes_now new)) going.held
+      (record {
         elsewhere = s.aside.elsewhere;
         place = s.place;
         unwritten = λ none. same_bytes now new (s.unwritten none);
         written = s.written;
         within = s.within;
+        opens = s.refused;
         later = time.written;
       }))
 
@@ -284,6 +286,7 @@ module _ (rules : List Rule) (answers : Answers) (entry start : World) (calm : s
         unwritten = λ none. same_bytes now new (s.unwritten none);
         written = s.written;
         within = s.within;
+        opens = λ refused. absurd (true≢false (sym refused));
         later = time.written;
       }))
 

@@ -34,7 +34,7 @@ use Rattle.run_model.specs.Worlds.{world_at, after_start}
 use Rattle.run_model.specs.Steps.{Step, SyncFails, FailsElsewhere, Leads, calls_device, found_named}
 use Rattle.run_model.specs.Moments.{Between, OrBefore, StepKeeps, StopKeeps}
 use Rattle.run_model.specs.Turns.{IsBlamed, bytes_now}
-use Rattle.run_model.specs.Writes.{IsCommandWithin}
+use Rattle.run_model.specs.Writes.{IsCommandWithin, OnlyOpens}
 
 -- ---- what is kept in memory
 
@@ -223,6 +223,9 @@ pub record Stepped (rules : List Rule) (answers : Answers) (e : Event) (reply : 
   -- it writes no more than it costs (`call_cost`), and beside slots of the root no file changes but in the places of
   -- the storages that it makes or names
   pub within : IsCommandWithin rules answers (world_of old.image old_memory doubt) e (bytes_now old) (bytes_now new)
+  -- one that is refused writes no more than the opening of its root, where that is to be opened
+  pub refused : is_refusal reply.answer ≡ true
+      → OnlyOpens (world_of old.image old_memory doubt) e (bytes_now old) (bytes_now new)
   -- the reply that the device failed has its cause in this command
   pub blamed : IsBlamed old.faults new.faults reply
 

@@ -1,6 +1,6 @@
 -- What calls write at most, computed.
-use Rattle.std.specs.Prelude.{◌≡◌, ℕ, ◌+◌, ◌*◌, List, [], ◌∷◌, Some, None, refl}
-use Rattle.std.proofs.Common.{arith, inr}
+use Rattle.std.specs.Prelude.{◌≡◌, ◌≤◌, ◌<◌, ℕ, ◌+◌, ◌*◌, List, [], ◌∷◌, Some, None, refl}
+use Rattle.std.proofs.Common.{arith, inr, subst}
 use Rattle.per_base.specs.declared.elements.Content.TheVariants.{Good}
 use Rattle.per_base.specs.declared.errors.PerError.TheVariants as error
 use Rattle.disk_model.specs.Place.{IsNoSlot}
@@ -9,14 +9,15 @@ use Rattle.element_state.specs.Written.{map_cost}
 use Rattle.migrate_fns.specs.Rules.{Rule, Answers}
 use Rattle.command_text.specs.declared.calls.Call.{Call}
 use Rattle.command_text.specs.declared.calls.Call.TheVariants as call
-use Rattle.deploy_laws.specs.Places.{root_place}
-use Rattle.deploy_rows.specs.Costs.{format_cost, greatest_cost, install_cost, root_cost}
+use Rattle.deploy_laws.specs.Places.{root_place, storage_shape}
+use Rattle.deploy_rows.specs.Costs.{format_cost, greatest_cost, install_cost, manifests_at, root_cost}
 use Rattle.run_model.specs.Costs.{call_cost, finishing_cost, next_cost, opening_cost, update_cost}
 use Rattle.run_model.specs.Samples.{at_first, at_nine, computed, fav, home, in_copies, on, the_plan, world_after}
 use Rattle.run_model.specs.SamplesDamage.{found_so, in_three}
 use Rattle.run_model.specs.SamplesManifests.{cut_text, favourites_text, manifests_read, second_text}
+use Rattle.run_model.specs.Turns.{DiskBytes}
 use Rattle.run_model.specs.Worlds.{Application, World, app_of, at_rest, to_open}
-use Rattle.run_model.specs.Writes.{CostsCall, IsBesideCall}
+use Rattle.run_model.specs.Writes.{CostsCall, IsBesideCall, OpensAtMost}
 
 -- what a call of application 0 costs in this world, whose root keeps these manifests
 abbrev cost : List (List ℕ) → World → Call → ℕ
@@ -153,3 +154,30 @@ nothing_touched file is = (is, inr (inr (error.StorageNotFound, refl)))
 -- a call on an open storage writes nothing
 a_get : cost [] at_nine (call.Get fav home) ≡ 0
 a_get = refl
+
+-- ---- refusals
+
+-- one of application 0, whose root was opened first: that root is the most that was written
+a_refusal : (old new : DiskBytes) → manifests_at old.image 0 ≡ both → OpensAtMost 0 to_open old new
+    → new.written ≤ old.written + 3 * (12 + 339 + 116 + 88)
+unfolding manifests_read
+a_refusal old new kept opens = subst
+    (λ (manifests : List (List ℕ)). new.written ≤ old.written + root_cost manifests) kept opens.costs
+
+one_copy : 0 < 1
+one_copy = omega arith
+
+three_files : 0 < 3
+three_files = omega arith
+
+-- an install may change file 1024, the first of the first storage that it makes
+an_install : ¬ (IsBesideCall 0 unopened (call.Install favourites_text) 1024)
+unfolding manifests_read storage_shape
+an_install beside = beside.1.0 0 0 one_copy three_files refl
+
+behind_root : (copy parity : ℕ) → copy < 3 → parity < 2 → ¬ (1024 ≡ 0 + 4 * copy + parity)
+behind_root copy parity three two is = absurd (omega (arith, three, two, is))
+
+-- and a refused one does not
+a_refused_one : (old new : DiskBytes) → OpensAtMost 0 to_open old new → new.image 1024 ≡ old.image 1024
+a_refused_one old new opens = opens.files 1024 (λ copy parity three two is. behind_root copy parity three two is)

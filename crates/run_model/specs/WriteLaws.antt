@@ -1,5 +1,5 @@
 -- What is known of the bound on a command: one that writes nothing keeps it, one that names a storage where it stays in
--- that storage's place, and one whose root was opened first.
+-- that storage's place, and one whose root was opened first. And of one that is refused: it writes that opening alone.
 use Rattle.std.specs.Prelude.{◌≡◌, ◌≤◌, ℕ, ◌+◌, List, Option, Some, None, Ok, Err}
 use Rattle.std.proofs.Common.{refl, sym, ap, ◌∙◌, subst, le_trans, inl, inr, arith}
 use Rattle.per_base.specs.declared.errors.PerError.{PerError}
@@ -20,7 +20,7 @@ use Rattle.run_model.specs.Found.{FoundStorage}
 use Rattle.run_model.specs.Steps.{device_storage, found_named}
 use Rattle.run_model.specs.Turns.{DiskBytes}
 use Rattle.run_model.specs.Worlds.{Application, Sessions, Stage, World, app_of, at_rest, to_open}
-use Rattle.run_model.specs.Writes.{CostsCall, IsBesidePlaces, IsCallWithin, IsCommandWithin}
+use Rattle.run_model.specs.Writes.{CostsCall, IsBesidePlaces, IsCallWithin, IsCommandWithin, OpensAtMost}
 
 none_some : {A : Type 0} (x : Option A) (a : A) → x ≡ None → x ≡ Some a → ⊥
 none_some x a none some = cc
@@ -170,3 +170,29 @@ call_unbegun rules answers app now r c old new marked_is slots cost =
     behind rules answers app now r c old new new marked_is slots cost
     (costs_nothing rules answers now (record r { disk = reopened r.disk; stage = at_rest }) app
     (manifests_at old.image app) c (new.written + 0) new.written (omega arith)) (λ file beside. refl)
+
+-- ---- a refused command
+
+-- it wrote nothing
+pub opens_nothing : (app : ℕ) (stage : Stage) (old new : DiskBytes) → new.image ≡ old.image
+    → new.written ≡ old.written → OpensAtMost app stage old new
+opens_nothing app stage old new image written = record {
+  costs = allowed old.written new.written (opening_cost (manifests_at old.image app) stage) (omega (arith, written));
+  files = λ file is. ap (λ (i : Image). i file) image;
+}
+
+-- no more than the opening before it
+only_before : (was opened now cost : ℕ) → opened ≤ was + cost → now ≡ opened → now ≤ was + cost
+only_before was opened now cost le same = omega (arith, le, same)
+
+-- it wrote nothing after its root was opened
+pub opens_alone : (app : ℕ) (stage : Stage) (old mid new : DiskBytes) → stage ≡ to_open
+    → Spares (IsNoSlot (root_place app)) old.image mid.image
+    → mid.written ≤ old.written + root_cost (manifests_at old.image app) → new.image ≡ mid.image
+    → new.written ≡ mid.written → OpensAtMost app stage old new
+opens_alone app stage old mid new marked_is slots cost image written = record {
+  costs = subst (λ (s : Stage). new.written ≤ old.written + opening_cost (manifests_at old.image app) s)
+      (sym marked_is)
+      (only_before old.written mid.written new.written (root_cost (manifests_at old.image app)) cost written);
+  files = λ file is. ap (λ (i : Image). i file) image ∙ slots file is;
+}

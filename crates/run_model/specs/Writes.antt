@@ -20,7 +20,7 @@ use Rattle.run_model.specs.Costs.{call_cost, opening_cost, update_cost}
 use Rattle.run_model.specs.Found.{FoundStorage}
 use Rattle.run_model.specs.Steps.{device_storage, found_named}
 use Rattle.run_model.specs.Turns.{DiskBytes}
-use Rattle.run_model.specs.Worlds.{Application, World, app_of, update_in}
+use Rattle.run_model.specs.Worlds.{Application, Stage, World, app_of, update_in}
 
 -- ---- bytes
 
@@ -92,3 +92,16 @@ abbrev pub IsCommandWithin : List Rule → Answers → World → Event → (old 
 IsCommandWithin rules answers w (event.Now t) old new = ⊤
 IsCommandWithin rules answers w (event.App app c) old new =
     IsCallWithin rules answers app w.now (app_of w app) c old new
+
+-- ---- a refused command
+
+-- Nothing but the opening of the root, where it is to be opened: no more is written than that costs, and no file
+-- changes but slots of the root.
+pub record OpensAtMost (app : ℕ) (stage : Stage) (old new : DiskBytes) : Type 0 where
+  pub costs : new.written ≤ old.written + opening_cost (manifests_at old.image app) stage
+  pub files : Spares (IsNoSlot (root_place app)) old.image new.image
+
+-- the same of a command's application
+abbrev pub OnlyOpens : World → Event → (old new : DiskBytes) → Type 0
+OnlyOpens w (event.Now t) old new = ⊤
+OnlyOpens w (event.App app c) old new = OpensAtMost app (app_of w app).stage old new
