@@ -3,7 +3,9 @@
 use Rattle.std.specs.Prelude.{◌≡◌, ◌⊎◌, ◌<◌, ◌≤◌, ℕ, List, Option, None, Some, Bool, IsTrue, ⊤}
 use Rattle.per_base.specs.Causes.{Rose}
 use Rattle.disk_model.specs.Medium.{Quiet, Elapses}
+use Rattle.disk_model.specs.declared.disk.Disk.{Ghosts as DiskOf}
 use Rattle.flash_model.specs.FlashMedium.{FlashMedium}
+use Rattle.flash_model.specs.declared.flash.Flash.{Ghosts as FlashOf}
 use Rattle.flash_model.specs.Pages.{IsPlain}
 use Rattle.flash_model.specs.State.{FlashCase, settle_pages}
 use Rattle.flash_disk.specs.Apart.{StandApart}
@@ -18,7 +20,7 @@ use Rattle.flash_disk.specs.Standing.{IsAgreed}
 use Rattle.flash_disk.specs.Throughout.{AgreedSince, UsableSince}
 use Rattle.flash_laws.specs.Outvotes.{OutlastsSince}
 use Rattle.loss_laws.specs.Since.{ReadOnSince}
-use Rattle.migrate_fns.specs.Rules.{Answers, Rule}
+use Rattle.run_model.specs.Edges.{Converters, Edges, failures_at, modelled}
 use Rattle.per_run.specs.declared.flash.FlashRun.{FlashRun}
 use Rattle.per_run.specs.declared.flash.FlashRun.TheVariants.{Ran, Unopened}
 use Rattle.per_run.specs.declared.words.Job.{Job}
@@ -102,23 +104,31 @@ pub record OpensAgain {F : Type 0} (told : Bool) (medium : F → FlashMedium) (f
 
 -- ---- the run
 
--- The job was done on the disk that the flash was opened as. The counts of failures are those of the source and of the
--- sink.
-pub record FlashRan {F : Type 0} (told : Bool) (medium : F → FlashMedium) (kind : JobKind) (rules : List Rule)
-    (answers : Answers) (status : ℕ)
-    (left_before left_now before now : Option (List ℕ)) (source_before source_now sink_before sink_now : ℕ) (flash : F)
-    (disk : FlashView F) : Type 0 where
+-- a flash as a disk, by what its trait says of it
+abbrev pub disk_of : {F : Type 0} → FlashOf F → DiskOf (FlashView F)
+disk_of of_flash = record { told = of_flash.told; medium = disk_seen of_flash.told of_flash.medium }
+
+-- the edges of a run over this disk
+abbrev pub edges_over : {F : Type 0} → Edges F → FlashView F → Edges (FlashView F)
+edges_over at disk = record {
+  left = at.left;
+  taken = at.taken;
+  source_failures = at.source_failures;
+  sink_failures = at.sink_failures;
+  disk = disk;
+}
+
+-- the job was done on the disk that the flash was opened as
+pub record FlashRan {F : Type 0} (of_flash : FlashOf F) (kind : JobKind) (converters : Converters) (status : ℕ)
+    (before : Edges F) (after : Edges (FlashView F)) : Type 0 where
   pub opened : FlashView F
-  pub is_opened : IsOpenedFlash told medium flash opened
-  pub done : JobDone told (disk_seen told medium) kind rules answers status left_before left_now before now
-      (record { disk = (disk_seen told medium opened).faults; source = source_before; sink = sink_before })
-      (record { disk = (disk_seen told medium disk).faults; source = source_now; sink = sink_now })
-      opened disk
-  pub caused : IsCaused kind status
-      (record { disk = (disk_seen told medium opened).faults; source = source_before; sink = sink_before })
-      (record { disk = (disk_seen told medium disk).faults; source = source_now; sink = sink_now })
-  pub time : Elapses (disk_seen told medium opened) (disk_seen told medium disk)
-  pub stops : IsTrue told → OpensAgain told medium flash opened disk
+  pub is_opened : IsOpenedFlash of_flash.told of_flash.medium before.disk opened
+  pub done : JobDone (disk_of of_flash) kind converters status (edges_over before opened) after
+  pub caused : IsCaused kind status (failures_at (modelled (disk_of of_flash) (edges_over before opened)))
+      (failures_at (modelled (disk_of of_flash) after))
+  pub time : Elapses (disk_seen of_flash.told of_flash.medium opened)
+      (disk_seen of_flash.told of_flash.medium after.disk)
+  pub stops : IsTrue of_flash.told → OpensAgain of_flash.told of_flash.medium before.disk opened after.disk
 
 -- The arguments were invalid; or there was no memory for them; or they say a job, and the flash was not opened.
 pub data HasNotRun (told : Bool) (job : Option Job) (status : ℕ) (flash back : FlashMedium) : Type 0 where

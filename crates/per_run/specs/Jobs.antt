@@ -1,6 +1,5 @@
--- What each job promises, and by which statuses it ends. Of bytes `before` and `now` are what the sink took before and
--- has taken now, `left_before` and `left_now` what the source has left, each None where nothing is said of it; `old`
--- and `new` are the disk. `rules` are the converters of values between types, and `answers` what each may answer.
+-- What each job promises, and by which statuses it ends: from what stood at its edges before it to what stands there
+-- after it.
 use Rattle.std.specs.Prelude.{◌≡◌, ◌≢◌, ◌⊎◌, ◌<◌, ◌≤◌, ◌+◌, ◌*◌, ℕ, List, [], ◌∷◌, ◌++◌, length, take, Option, Some}
 use Rattle.std.specs.Prelude.{None, Bool, true, false, codes, count_by, not, ◌&&◌, IsTrue, IsFalse, Result, Ok, Err}
 use Rattle.std.specs.Prelude.{IsOk, IsErr}
@@ -12,7 +11,7 @@ use Rattle.per_base.specs.Causes.{Rose}
 use Rattle.per_base.specs.declared.errors.PerError.{PerError}
 use Rattle.disk_model.specs.Frame.{Spares}
 use Rattle.disk_model.specs.Medium.{Medium, Quiet}
-use Rattle.migrate_fns.specs.Rules.{Rule, Answers}
+use Rattle.disk_model.specs.declared.disk.Disk.{Ghosts as DiskOf}
 use Rattle.command_text.specs.declared.replies.Answer.{Answer}
 use Rattle.command_text.specs.declared.replies.Answer.TheVariants as answer
 use Rattle.command_text.specs.declared.replies.Reply.{Reply}
@@ -21,12 +20,13 @@ use Rattle.command_text.specs.Replies.{answer_text, number_or_dash}
 use Rattle.deploy_laws.specs.Apps.{App, IsCleanApp}
 use Rattle.deploy_rows.specs.Costs.{format_cost}
 use Rattle.run_model.specs.Bounds.{AreBounded, bytes_after}
+use Rattle.run_model.specs.Edges.{Converters, Edges, modelled}
 use Rattle.run_model.specs.Endings.{Ending, FailureCounts, HasStarted, ending_status}
 use Rattle.run_model.specs.Lines.{Give}
 use Rattle.run_model.specs.Lives.{LooksOnly}
 use Rattle.run_model.specs.Moments.{AreSoundDoubts, last_of}
 use Rattle.run_model.specs.Runs as runs
-use Rattle.run_model.specs.Runs.{IsInProgress, IsSettled, IsSoundEnd}
+use Rattle.run_model.specs.Runs.{Handling, IsInProgress, IsSettled, IsSoundEnd}
 use Rattle.run_model.specs.Runtimes.{IsNoRoot}
 use Rattle.run_model.specs.Turns.{DiskBytes, Turn, bytes_now, events_of, replies_of, worlds_of, CountsFailures, Follow}
 use Rattle.run_model.specs.Worlds.{Disks, World, formatted, world_at}
@@ -48,6 +48,18 @@ use Rattle.per_run.specs.Serves.{FormatsWithin, Serves}
 use Rattle.per_run.specs.Words.{reads_input}
 
 -- ---- the output of a job that writes once
+
+-- what stands at one moment where a job writes: the bytes that the sink has taken, None where nothing is said of them,
+-- and the disk
+pub record Outputs : Type 1 where
+  pub taken : Option (List ℕ)
+  pub disk : Medium
+
+abbrev pub outputs : (taken : Option (List ℕ)) → (disk : Medium) → Outputs
+outputs taken disk = record { taken = taken; disk = disk }
+
+abbrev pub outputs_at : {D : Type 0} → DiskOf D → Edges D → Outputs
+outputs_at of_disk at = outputs at.taken (of_disk.medium at.disk)
 
 -- a proper prefix of the text was written
 abbrev pub WroteProperPrefix : (before now : Option (List ℕ)) → List ℕ → Type 0
@@ -77,15 +89,15 @@ FailsAtThree status before now = status ≢ 3 → now ≡ before
 
 -- eight applications of which nothing is installed, in clean places (in which each text is a root's, and no two have
 -- one generation), and nothing pending
-pub record Formats (told : Bool) (status : ℕ) (before now : Option (List ℕ)) (old new : Medium) : Type 0 where
-  pub output : WritesOutput status before now (codes "ok\n")
-  pub world : IsTrue told → CameToOutput status → world_at new.image ≡ formatted
-  pub clean : IsTrue told → CameToOutput status → (app : ℕ) → app < 8 → IsCleanApp app new.image
-  pub quiet : CameToOutput status → Quiet new
+pub record Formats (told : Bool) (status : ℕ) (before after : Outputs) : Type 0 where
+  pub output : WritesOutput status before.taken after.taken (codes "ok\n")
+  pub world : IsTrue told → CameToOutput status → world_at after.disk.image ≡ formatted
+  pub clean : IsTrue told → CameToOutput status → (app : ℕ) → app < 8 → IsCleanApp app after.disk.image
+  pub quiet : CameToOutput status → Quiet after.disk
   -- only slots of roots change, and no more is written than the formatting of eight roots costs, however it ends
-  pub roots : IsTrue told → Spares IsNoRoot old.image new.image
-  pub written : new.written ≤ old.written + 8 * format_cost
-  pub failed : FailsAtThree status old.faults new.faults
+  pub roots : IsTrue told → Spares IsNoRoot before.disk.image after.disk.image
+  pub written : after.disk.written ≤ before.disk.written + 8 * format_cost
+  pub failed : FailsAtThree status before.disk.faults after.disk.faults
 
 -- ---- a synthetic workload, generated from a number
 
@@ -133,28 +145,26 @@ summary lines rs = summary_text lines (count_by is_done rs) (count_by is_other r
 abbrev pub BeginWith : (lines all : List (List ℕ)) → Type 0
 BeginWith lines all = (others : List (List ℕ)) × (all ≡ lines ++ others)
 
--- after these commands nothing was written; or memory ran out in the command of the next line after `lines`, of the
--- lines `all`, and it was in progress: it began at the bytes `left`
-abbrev pub IsLeftBy : List Rule → Answers → (start : World) → (lines all : List (List ℕ)) → List Turn
-    → (left now : DiskBytes) → Type 0
-IsLeftBy rules answers start lines all turns left now = (now ≡ left)
-    ⊎ ((next : Disks) × IsInProgress rules answers (last_of start (worlds_of turns)) lines all next left now)
+-- after these commands nothing was written; or memory ran out in the command of the next line, and it was in progress
+abbrev pub IsLeftBy : Converters → (start : World) → Handling → (begun held : DiskBytes) → Type 0
+IsLeftBy converters start handling begun held = (held ≡ bytes_after begun handling.turns)
+    ⊎ ((next : Disks) × IsInProgress converters start handling next begun held)
 
 -- What these commands wrote: each from the bytes on that were there before it, the first from those that the start
 -- left, which formatted eight roots and opened them, however far it came; and after the last nothing, where the job
 -- came to its output, and else no more than the command that was in progress.
-pub record IsGeneratedWithin (rules : List Rule) (answers : Answers) (lines all : List (List ℕ)) (turns : List Turn)
-    (Whole : Type 0) (old new : Medium) : Type 0 where
-  pub begun : DiskBytes
-  pub starts : FormatsWithin (bytes_now old) begun
-  pub bounded : AreBounded rules answers formatted begun turns
-  pub held : Whole → bytes_now new ≡ bytes_after begun turns
-  pub left : IsLeftBy rules answers formatted lines all turns (bytes_after begun turns) (bytes_now new)
+pub record IsGeneratedWithin (converters : Converters) (handling : Handling) (Whole : Type 0)
+    (old new : Medium) : Type 0
+  where
+    pub begun : DiskBytes
+    pub starts : FormatsWithin (bytes_now old) begun
+    pub bounded : AreBounded converters.rules converters.answers formatted begun handling.turns
+    pub held : Whole → bytes_now new ≡ bytes_after begun handling.turns
+    pub left : IsLeftBy converters formatted handling begun (bytes_now new)
 
 -- the lines that the number gives, each with its reply and its world from the formatted one on: the applications as the
 -- disk denotes them and memory keeps them; where the job did not come to its output, the first of the lines
-pub record Generates (told : Bool) (rules : List Rule) (answers : Answers) (n status : ℕ) (before now : Option (List ℕ))
-    (old new : Medium) : Type 0 where
+pub record Generates (told : Bool) (converters : Converters) (n status : ℕ) (before after : Outputs) : Type 0 where
   pub ending : Ending
   pub status_is : status ≡ ending_status ending
   pub lines : List (List ℕ)
@@ -162,46 +172,48 @@ pub record Generates (told : Bool) (rules : List Rule) (answers : Answers) (n st
   pub whole : CameToOutput status → lines ≡ generated n
   pub turns : List Turn
   pub gives : Give lines (events_of turns)
-  pub output : WritesOutput status before now (summary (length (generated n)) (replies_of turns))
-  pub failures : CountsFailures (CameToOutput status) old.faults turns new.faults
-  pub follow : IsTrue told → Follow rules answers formatted turns
-  pub bounded : IsTrue told
-      → IsGeneratedWithin rules answers lines (generated n) turns (CameToOutput status) old new
-  pub settled : IsTrue told → CameToOutput status → IsSettled (last_of formatted (worlds_of turns)) new
+  pub output : WritesOutput status before.taken after.taken (summary (length (generated n)) (replies_of turns))
+  pub failures : CountsFailures (CameToOutput status) before.disk.faults turns after.disk.faults
+  pub follow : IsTrue told → Follow converters.rules converters.answers formatted turns
+  -- of the sink is said only what the job writes at its end
+  pub bounded : IsTrue told → IsGeneratedWithin converters
+      (record { lines = lines; all = generated n; turns = turns; before = None; now = None }) (CameToOutput status)
+      before.disk after.disk
+  pub settled : IsTrue told → CameToOutput status → IsSettled (last_of formatted (worlds_of turns)) after.disk
   -- where the start did not end no line was handled, and no more was done than the formatting and the start
-  pub unbegun : ¬ (HasStarted ending) → (lines ≡ []) × (IsTrue told → FormatsWithin (bytes_now old) (bytes_now new))
+  pub unbegun : ¬ (HasStarted ending)
+      → (lines ≡ []) × (IsTrue told → FormatsWithin (bytes_now before.disk) (bytes_now after.disk))
   -- and where it did the places are clean, however the job ended
   pub clean : (tells : IsTrue told) → HasStarted ending → (app : ℕ) → app < 8 → AreSoundDoubts app (worlds_of turns)
-      → IsSoundEnd app ending (bytes_after (bounded tells).begun turns) new → IsCleanApp app new.image
+      → IsSoundEnd app ending (bytes_after (bounded tells).begun turns) after.disk → IsCleanApp app after.disk.image
 
 -- ---- an audit
 
 -- what is on the disk is listed, and what is found of it; over a disk that models nothing the text is that of some
 -- lists
-pub record Audits (told : Bool) (status : ℕ) (before now : Option (List ℕ)) (old new : Medium) : Type 0 where
+pub record Audits (told : Bool) (status : ℕ) (before after : Outputs) : Type 0 where
   pub elements : List Listed
   pub findings : List Finding
-  pub elements_are : IsTrue told → elements ≡ elements_at old.image
-  pub findings_are : IsTrue told → findings ≡ findings_at old.image
-  pub output : WritesOutput status before now (audit_text elements findings)
+  pub elements_are : IsTrue told → elements ≡ elements_at before.disk.image
+  pub findings_are : IsTrue told → findings ≡ findings_at before.disk.image
+  pub output : WritesOutput status before.taken after.taken (audit_text elements findings)
   -- 8 and not 0 is the status where something is found
   pub sound : status ≡ 0 → findings ≡ []
   pub found : status ≡ 8 → findings ≢ []
-  pub stays : LooksOnly old new
-  pub quiet : CameToOutput status → Quiet new
-  pub failed : FailsAtThree status old.faults new.faults
+  pub stays : LooksOnly before.disk after.disk
+  pub quiet : CameToOutput status → Quiet after.disk
+  pub failed : FailsAtThree status before.disk.faults after.disk.faults
 
 -- ---- a listing
 
 -- what is on the disk is said in this form; over a disk that models nothing it is some text
-pub record Lists (told : Bool) (form : Form) (status : ℕ) (before now : Option (List ℕ)) (old new : Medium) : Type 0
-  where
-    pub text : List ℕ
-    pub text_is : IsTrue told → text ≡ listing_text form old.image
-    pub output : WritesOutput status before now text
-    pub stays : LooksOnly old new
-    pub quiet : CameToOutput status → Quiet new
-    pub failed : FailsAtThree status old.faults new.faults
+pub record Lists (told : Bool) (form : Form) (status : ℕ) (before after : Outputs) : Type 0 where
+  pub text : List ℕ
+  pub text_is : IsTrue told → text ≡ listing_text form before.disk.image
+  pub output : WritesOutput status before.taken after.taken text
+  pub stays : LooksOnly before.disk after.disk
+  pub quiet : CameToOutput status → Quiet after.disk
+  pub failed : FailsAtThree status before.disk.faults after.disk.faults
 
 -- ---- an answer that may be a refusal
 
@@ -224,14 +236,13 @@ pub record AnswersOr {A : Type 0} (text : A → List ℕ) (row : Result A PerErr
 -- ---- an export
 
 -- the text of the storage alone is written; over a disk that models nothing it is a storage of some application
-pub record Exports (told : Bool) (app : ℕ) (name : List ℕ) (status : ℕ) (before now : Option (List ℕ))
-    (old new : Medium) : Type 0 where
+pub record Exports (told : Bool) (app : ℕ) (name : List ℕ) (status : ℕ) (before after : Outputs) : Type 0 where
   pub it : App
-  pub seen : IsAppSeen told old.image app it
-  pub answers : AnswersOr (λ text. text) (exporting it name) status before now
-  pub stays : LooksOnly old new
-  pub quiet : CameToOutput status → Quiet new
-  pub failed : FailsAtThree status old.faults new.faults
+  pub seen : IsAppSeen told before.disk.image app it
+  pub answers : AnswersOr (λ text. text) (exporting it name) status before.taken after.taken
+  pub stays : LooksOnly before.disk after.disk
+  pub quiet : CameToOutput status → Quiet after.disk
+  pub failed : FailsAtThree status before.disk.faults after.disk.faults
 
 -- ---- an import
 
@@ -243,85 +254,84 @@ pub record IsInputTaken (left_before left_now : Option (List ℕ)) (given : List
   pub end_seen : IsTrue ended → IsAtEnd left_now × (length given < 67108864)
 
 -- nothing was written, and no call of the disk was made
-pub record IsUncalled (before now : Option (List ℕ)) (old new : Medium) : Type 0 where
-  pub output : Keeps before now
-  pub stays : LooksOnly old new
-  pub moment : new.moment ≡ old.moment
-  pub faults : new.faults ≡ old.faults
+pub record IsUncalled (before after : Outputs) : Type 0 where
+  pub output : Keeps before.taken after.taken
+  pub stays : LooksOnly before.disk after.disk
+  pub moment : after.disk.moment ≡ before.disk.moment
+  pub faults : after.disk.faults ≡ before.disk.faults
 
--- the storage was rebuilt from this text, or that was refused, or it was broken off on the way
-pub record Makes (told : Bool) (app : ℕ) (name text : List ℕ) (status : ℕ) (before now : Option (List ℕ))
-    (old new : Medium) : Type 0 where
+-- what an import rebuilds: the storage of this name of an application, from this text
+pub record Rebuild : Type 0 where
+  pub app : ℕ
+  pub name : List ℕ
+  pub text : List ℕ
+
+-- the storage was rebuilt from the text, or that was refused, or it was broken off on the way
+pub record Makes (told : Bool) (rebuild : Rebuild) (status : ℕ) (before after : Outputs) : Type 0 where
   pub it : App
-  pub seen : IsAppSeen told old.image app it
-  pub answers : AnswersOr (λ after. codes "ok\n") (importing_into it name text) status before now
-  pub refused : CameToOutput status → IsErr (importing_into it name text) → LooksOnly old new
-  pub imported : IsTrue told → CameToOutput status → Imported app name text old new
+  pub seen : IsAppSeen told before.disk.image rebuild.app it
+  pub answers : AnswersOr (λ made. codes "ok\n") (importing_into it rebuild.name rebuild.text) status before.taken after.taken
+  pub refused : CameToOutput status → IsErr (importing_into it rebuild.name rebuild.text)
+      → LooksOnly before.disk after.disk
+  pub imported : IsTrue told → CameToOutput status
+      → Imported rebuild.app rebuild.name rebuild.text before.disk after.disk
   -- at every moment, and no more is written than a rebuild with the contents of the text costs, however it ends
-  pub keeps : IsTrue told → ImportKeeps app name text old new
-  pub written : IsTrue told → WritesImport app name text old new
-  pub quiet : CameToOutput status → Quiet new
-  pub failed : FailsAtThree status old.faults new.faults
+  pub keeps : IsTrue told → ImportKeeps rebuild.app rebuild.name rebuild.text before.disk after.disk
+  pub written : IsTrue told → WritesImport rebuild.app rebuild.name rebuild.text before.disk after.disk
+  pub quiet : CameToOutput status → Quiet after.disk
+  pub failed : FailsAtThree status before.disk.faults after.disk.faults
 
 -- The input was read to its end, and then the storage rebuilt; or it was not, and nothing happened.
-pub record Imports (told : Bool) (app : ℕ) (name : List ℕ) (status : ℕ)
-    (left_before left_now before now : Option (List ℕ)) (old new : Medium) : Type 0 where
+pub record Imports (told : Bool) (app : ℕ) (name : List ℕ) (status : ℕ) (before after : Edges Medium) : Type 0 where
   pub given : List ℕ
   pub ended : Bool
-  pub taken : IsInputTaken left_before left_now given ended
+  pub taken : IsInputTaken before.left after.left given ended
   -- 5 is the status where the source failed, and 7 where the input is too long
   pub broken : status ≡ 5 → IsFalse ended × (length given < 67108864)
   pub too_long : status ≡ 7 → IsFalse ended × (length given ≡ 67108864)
   pub called : CameToOutput status ⊎ (status ≡ 3) → IsTrue ended
-  pub uncalled : IsFalse ended → IsUncalled before now old new
-  pub made : IsTrue ended → Makes told app name given status before now old new
+  pub uncalled : IsFalse ended → IsUncalled (outputs before.taken before.disk) (outputs after.taken after.disk)
+  pub made : IsTrue ended → Makes told (record { app = app; name = name; text = given }) status
+      (outputs before.taken before.disk) (outputs after.taken after.disk)
 
 -- ---- a recovery of a root
 
 -- what was recovered is said, or why nothing was; 9 and not 0 is the status of a refusal; over a disk that models
 -- nothing it is some row
-pub record Recovers (told : Bool) (app status : ℕ) (before now : Option (List ℕ)) (old new : Medium) : Type 0 where
+pub record Recovers (told : Bool) (app status : ℕ) (before after : Outputs) : Type 0 where
   pub row : RootRow
-  pub ended : IsTrue told → CameToOutput status → IsRecovered app row old.image new.image
-  pub output : WritesOutput status before now (recovery_text row)
+  pub ended : IsTrue told → CameToOutput status → IsRecovered app row before.disk.image after.disk.image
+  pub output : WritesOutput status before.taken after.taken (recovery_text row)
   pub done : status ≡ 0 → ¬ (IsRefused row)
   pub refused : status ≡ 9 → IsRefused row
-  pub stays : CameToOutput status → IsRefused row → LooksOnly old new
+  pub stays : CameToOutput status → IsRefused row → LooksOnly before.disk after.disk
   -- at every moment, and no more is written than the longest root costs, however it ends
-  pub keeps : IsTrue told → RecoveryKeeps app old new
-  pub written : new.written ≤ old.written + most_written
-  pub quiet : CameToOutput status → Quiet new
-  pub failed : FailsAtThree status old.faults new.faults
+  pub keeps : IsTrue told → RecoveryKeeps app before.disk after.disk
+  pub written : after.disk.written ≤ before.disk.written + most_written
+  pub quiet : CameToOutput status → Quiet after.disk
+  pub failed : FailsAtThree status before.disk.faults after.disk.faults
 
 -- ---- all jobs
 
--- what each job promises, by its status, of the source, the sink and the disk: the promise of its own
-abbrev pub JobDone : {D : Type 0} → (told : Bool) → (medium : D → Medium) → JobKind → List Rule → Answers → (status : ℕ)
-    → (left_before left_now before now : Option (List ℕ))
-    → (old_counts new_counts : FailureCounts) → (old new : D) → Type 0
-JobDone told medium Run rules answers status left_before left_now before now old_counts new_counts old new =
-    runs.Run told rules answers status left_before left_now before now old_counts.source new_counts.source
-    old_counts.sink new_counts.sink (medium old) (medium new)
-JobDone told medium Serve rules answers status left_before left_now before now old_counts new_counts old new =
-    Serves told medium rules answers status left_before left_now before now old_counts.source new_counts.source
-    old_counts.sink new_counts.sink old new
-JobDone told medium Format rules answers status left_before left_now before now old_counts new_counts old new =
-    Formats told status before now (medium old) (medium new)
-JobDone told medium (Generate n) rules answers status left_before left_now before now old_counts new_counts old new =
-    Generates told rules answers n status before now (medium old) (medium new)
-JobDone told medium Audit rules answers status left_before left_now before now old_counts new_counts old new =
-    Audits told status before now (medium old) (medium new)
-JobDone told medium (Listing form) rules answers status left_before left_now before now old_counts new_counts old new =
-    Lists told form status before now (medium old) (medium new)
-JobDone told medium (Export app name) rules answers status left_before left_now before now old_counts new_counts old
-    new =
-    Exports told app name status before now (medium old) (medium new)
-JobDone told medium (Import app name) rules answers status left_before left_now before now old_counts new_counts old
-    new =
-    Imports told app name status left_before left_now before now (medium old) (medium new)
-JobDone told medium (RecoverRoot app) rules answers status left_before left_now before now old_counts new_counts old
-    new =
-    Recovers told app status before now (medium old) (medium new)
+-- what each job promises, by its status, of its edges before and after: the promise of its own
+abbrev pub JobDone : {D : Type 0} → DiskOf D → JobKind → Converters → (status : ℕ) → (before after : Edges D) → Type 0
+JobDone of_disk Run converters status before after =
+    runs.Run of_disk.told converters status (modelled of_disk before) (modelled of_disk after)
+JobDone of_disk Serve converters status before after = Serves of_disk converters status before after
+JobDone of_disk Format converters status before after =
+    Formats of_disk.told status (outputs_at of_disk before) (outputs_at of_disk after)
+JobDone of_disk (Generate n) converters status before after =
+    Generates of_disk.told converters n status (outputs_at of_disk before) (outputs_at of_disk after)
+JobDone of_disk Audit converters status before after =
+    Audits of_disk.told status (outputs_at of_disk before) (outputs_at of_disk after)
+JobDone of_disk (Listing form) converters status before after =
+    Lists of_disk.told form status (outputs_at of_disk before) (outputs_at of_disk after)
+JobDone of_disk (Export app name) converters status before after =
+    Exports of_disk.told app name status (outputs_at of_disk before) (outputs_at of_disk after)
+JobDone of_disk (Import app name) converters status before after =
+    Imports of_disk.told app name status (modelled of_disk before) (modelled of_disk after)
+JobDone of_disk (RecoverRoot app) converters status before after =
+    Recovers of_disk.told app status (outputs_at of_disk before) (outputs_at of_disk after)
 
 -- the statuses that no failure brings
 abbrev pub statuses_of : JobKind → List ℕ

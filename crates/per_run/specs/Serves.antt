@@ -8,18 +8,19 @@ use Rattle.per_base.specs.Causes.{Rose}
 use Rattle.disk_model.specs.Frame.{Spares}
 use Rattle.disk_model.specs.Image.{Image}
 use Rattle.disk_model.specs.Medium.{Medium, Quiet, Elapses, OnlyReads}
-use Rattle.migrate_fns.specs.Rules.{Rule, Answers}
+use Rattle.disk_model.specs.declared.disk.Disk.{Ghosts as DiskOf}
 use Rattle.command_text.specs.declared.lines.Line.TheVariants as line
 use Rattle.command_text.specs.Grammar.{IsLine}
 use Rattle.command_text.specs.Replies.{reply_text}
 use Rattle.deploy_laws.specs.Apps.{IsCleanApp}
 use Rattle.deploy_rows.specs.Costs.{format_cost, root_cost}
 use Rattle.run_model.specs.Costs.{roots_cost}
+use Rattle.run_model.specs.Edges.{Converters, Edges, failures_at, modelled}
 use Rattle.run_model.specs.Endings as endings
 use Rattle.run_model.specs.Endings.{Ending, HasCauseOf, HasEnded, bad_line_text, ending_status}
 use Rattle.run_model.specs.Lines.{IsBad, lines_of}
 use Rattle.run_model.specs.Moments.{last_of}
-use Rattle.run_model.specs.Runs.{DiskSide, IsSettled}
+use Rattle.run_model.specs.Runs.{DiskSide, Handling, IsSettled}
 use Rattle.run_model.specs.Runtimes.{IsNoRoot}
 use Rattle.run_model.specs.Turns.{DiskBytes, Turn, CountsFailures, bytes_now, worlds_of}
 use Rattle.run_model.specs.Worlds.{after_start, formatted, world_at}
@@ -141,29 +142,36 @@ IsServedInput other ended count = ⊤
 
 -- ---- a run that stays, from its start on
 
+-- the handling of these lines, of the lines `all`, where nothing is said of the sink
+abbrev pub handling_of : List Heard → (all : List (List ℕ)) → Handling
+handling_of heard all = record {
+  lines = lines_in heard;
+  all = all;
+  turns = turns_in heard;
+  before = None;
+  now = None;
+}
+
 -- A last line without its line feed is none of the lines. Of the disk is promised what a run promises, but with None
 -- for what was written, as for a sink that models nothing: here `ends` says that.
-pub record Serve (told : Bool) (rules : List Rule) (answers : Answers) (status : ℕ)
-    (left_before left_now before now : Option (List ℕ))
-    (source_before source_now sink_before sink_now : ℕ) (old new : Medium) : Type 0 where
+pub record Serve (told : Bool) (converters : Converters) (status : ℕ) (before after : Edges Medium) : Type 0 where
   pub ending : Ending
   pub status_is : status ≡ ending_status ending
   pub given : List ℕ
-  pub taken : Consumes left_before left_now given
+  pub taken : Consumes before.left after.left given
   pub ended : Bool
-  pub end_seen : IsTrue ended → IsAtEnd left_now
+  pub end_seen : IsTrue ended → IsAtEnd after.left
   pub input : IsServedInput ending ended (length given)
   pub heard : List Heard
   pub are : AllByRecursion IsHeard heard
   pub ends : ServesBy (IsTrue told
-      → IsSettled (last_of (after_start (world_at old.image)) (worlds_of (turns_in heard))) new)
-      ending heard (lines_of false given) before now
-  pub cause : HasCauseOf ending (record { disk = old.faults; source = source_before; sink = sink_before })
-      (record { disk = new.faults; source = source_now; sink = sink_now })
-  pub failures : CountsFailures (HasEnded ending) old.faults (turns_in heard) new.faults
-  pub time : Elapses old new
-  pub disk : IsTrue told → DiskSide rules answers ending (lines_in heard) (lines_of false given) (turns_in heard) None
-      None old new
+      → IsSettled (last_of (after_start (world_at before.disk.image)) (worlds_of (turns_in heard))) after.disk)
+      ending heard (lines_of false given) before.taken after.taken
+  pub cause : HasCauseOf ending (failures_at before) (failures_at after)
+  pub failures : CountsFailures (HasEnded ending) before.disk.faults (turns_in heard) after.disk.faults
+  pub time : Elapses before.disk after.disk
+  pub disk : IsTrue told
+      → DiskSide converters ending (handling_of heard (lines_of false given)) before.disk after.disk
 
 -- ---- the disk that it starts on
 
@@ -205,16 +213,14 @@ HadNothing told medium old new = ((IsTrue told → HasNoBytes (medium old).image
 
 -- A run that stays went over the disk that was prepared; or that was empty or could not be read, and the runtime did
 -- not start: no line was taken and nothing written.
-pub data Serves {D : Type 0} (told : Bool) (medium : D → Medium) (rules : List Rule) (answers : Answers) (status : ℕ)
-    (left_before left_now before now : Option (List ℕ))
-    (source_before source_now sink_before sink_now : ℕ) (old new : D) : Type 0 where
-  served : (start : D) → IsPreparedDisk told medium old start
-      → Serve told rules answers status left_before left_now before now source_before source_now sink_before sink_now
-      (medium start) (medium new)
-      → Serves told medium rules answers status left_before left_now before now source_before source_now sink_before
-      sink_now old new
-  unprepared : HadNothing told medium old new
-      → ((status ≡ 3) × Rose (medium old).faults (medium new).faults) ⊎ (status ≡ 4)
-      → Keeps left_before left_now → Keeps before now
-      → Serves told medium rules answers status left_before left_now before now source_before source_now sink_before
-      sink_now old new
+pub data Serves {D : Type 0} (of_disk : DiskOf D) (converters : Converters) (status : ℕ)
+    (before after : Edges D) : Type 0
+  where
+    served : (start : D) → IsPreparedDisk of_disk.told of_disk.medium before.disk start
+        → Serve of_disk.told converters status (modelled of_disk (record before { disk = start }))
+        (modelled of_disk after) → Serves of_disk converters status before after
+    unprepared : HadNothing of_disk.told of_disk.medium before.disk after.disk
+        → ((status ≡ 3) × Rose (of_disk.medium before.disk).faults (of_disk.medium after.disk).faults)
+        ⊎ (status ≡ 4)
+        → Keeps before.left after.left → Keeps before.taken after.taken
+        → Serves of_disk converters status before after

@@ -14,9 +14,7 @@ use Rattle.run_model.specs.Turns.{CountsFailures, worlds_of}
 use Rattle.run_model.specs.Worlds.{after_start, world_at}
 use Rattle.per_run.specs.declared.endings.Ending.{Ending}
 use Rattle.per_run.specs.Serves.{HadNothing, HasNoBytes, Heard, IsHeard, IsPreparedDisk, IsServedInput, ServesBy}
-use Rattle.per_run.specs.Serves.{heard_line}
-use Rattle.per_run.specs.Serves.{lines_in}
-use Rattle.per_run.specs.Serves.{heard_texts, turns_in}
+use Rattle.per_run.specs.Serves.{handling_of, heard_line, heard_texts, lines_in, turns_in}
 use Rattle.per_run.specs.Steps.{Goes, HasNoFeed, ending_of, with_feed}
 
 -- ---- the start
@@ -63,7 +61,8 @@ pub record Service (told : Bool) (rules : List Rule) (answers : Answers) (ending
       → IsSettled (last_of (after_start (world_at start.image)) (worlds_of (turns_in heard))) medium)
       ending heard all before now
   pub failures : CountsFailures (endings.HasEnded ending) start.faults (turns_in heard) medium.faults
-  pub disk : IsTrue told → DiskSide rules answers ending (lines_in heard) all (turns_in heard) None None start medium
+  pub disk : IsTrue told → DiskSide (record { rules = rules; answers = answers }) ending (handling_of heard all) start
+      medium
 
 -- ---- bytes
 

@@ -150,7 +150,8 @@ pub record Course (told : Bool) (rules : List Rule) (answers : Answers) (ending 
   pub gives : Give lines (events_of turns)
   pub ends : EndsBy ending lines all turns before now
   pub failures : CountsFailures (endings.HasEnded ending) start.faults turns medium.faults
-  pub disk : IsTrue told → DiskSide rules answers ending lines all turns before now start medium
+  pub disk : IsTrue told → DiskSide (record { rules = rules; answers = answers }) ending
+      (record { lines = lines; all = all; turns = turns; before = before; now = now }) start medium
 
 -- ---- bytes
 

@@ -4,7 +4,7 @@ ghost use Rattle.std.specs.Prelude.{◌≡◌, ◌≢◌, ◌⊎◌, [], ℕ};
 ghost use Rattle.disk_model.specs.Medium.{Elapses};
 ghost use Rattle.per_base.specs.Causes.{Rose};
 ghost use Rattle.per_audit.specs.AuditText.{audit_text};
-ghost use Rattle.per_run.specs.Jobs.{Audits, IsCaused, WritesOutput};
+ghost use Rattle.per_run.specs.Jobs.{Audits, IsCaused, WritesOutput, outputs};
 ghost use Rattle.per_run.specs.declared.words.JobKind.{JobKind};
 
 use crate::endings::{DEVICE, DONE, FOUND, OUT_OF_MEMORY};
@@ -18,8 +18,8 @@ use std::alloc::Global;
 /// Audits the disk, which changes nothing of it, and writes what is listed and found. Gives the status.
 pub fn audit_disk<D: Disk, K: Sink>(alloc: Global, sink: &mut K, disk: &mut D) -> u8
     // By the status: what the sink took, before the call and after it; and of the disk that nothing changed.
-    ensures job { Audits D.told result (K.written sink.old) (K.written sink.new) (D.medium disk.old)
-        (D.medium disk.new) }
+    ensures job { Audits D.told result (outputs (K.written sink.old) (D.medium disk.old))
+        (outputs (K.written sink.new) (D.medium disk.new)) }
     // A status of a failure comes only where the count of failures rose: 3 of the disk, 6 of the sink. The job does not
     // call the source, so that it is said of any count of it.
     ensures caused { (source : ℕ) → IsCaused JobKind.Audit result

@@ -5,7 +5,7 @@ ghost use Rattle.disk_model.specs.Medium.{Elapses};
 ghost use Rattle.per_base.specs.Causes.{Rose};
 ghost use Rattle.per_base.specs.Errors.{error_number};
 ghost use Rattle.per_backup.specs.Clauses.{exported_as};
-ghost use Rattle.per_run.specs.Jobs.{AnswersOr, Exports, IsCaused};
+ghost use Rattle.per_run.specs.Jobs.{AnswersOr, Exports, IsCaused, outputs};
 ghost use Rattle.per_run.specs.declared.words.JobKind.{JobKind};
 
 use crate::endings::{DEVICE, DONE, OUT_OF_MEMORY};
@@ -27,8 +27,8 @@ pub fn export_storage<D: Disk, K: Sink>(
 ) -> u8
     requires { application < 8 }
     // By the status: what the sink took, before the call and after it; and of the disk that nothing changed.
-    ensures job { Exports D.told application name.now result (K.written sink.old) (K.written sink.new)
-        (D.medium disk.old) (D.medium disk.new) }
+    ensures job { Exports D.told application name.now result (outputs (K.written sink.old) (D.medium disk.old))
+        (outputs (K.written sink.new) (D.medium disk.new)) }
     // A status of a failure comes only where the count of failures rose: 3 of the disk, 6 of the sink. The job does not
     // call the source, so that it is said of any count of it.
     ensures caused { (source : ℕ) → IsCaused (JobKind.Export application name.now) result

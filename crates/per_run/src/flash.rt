@@ -1,8 +1,8 @@
 //! The top call over raw flash.
 
 ghost use Rattle.std.specs.Prelude.{◌≡◌, ◌⊎◌, ◌+◌, IfSome, IsSomeAnd, false, map, string_bytes, ◌≢◌};
-ghost use Rattle.migrate_fns.specs.Stored.{answers_of, rules_of};
 ghost use Rattle.per_base.specs.Causes.{Rose};
+ghost use Rattle.run_model.specs.Edges.{converters_of, edges};
 ghost use Rattle.run_model.specs.Lines.{IsWellFormed};
 ghost use Rattle.per_run.specs.Flashes.{FlashRan, HasNotRun, IfRan, IfUnopened, IsHandedBack, IsNotOpened, IsWrongSize};
 ghost use Rattle.per_run.specs.Steps.{IsInRange};
@@ -56,10 +56,8 @@ pub fn per_flash<F: Flash, S: Source, K: Sink>(
     // What the job promises, over the flash as a disk; and at every moment a stop leaves a flash that opens again. A
     // job that reads no input takes nothing of the source.
     ensures ran { IfRan result (λ status disk. IsSomeAnd (job_of (map string_bytes words.now)) (λ job.
-        FlashRan F.told F.medium job.kind (rules_of migrations.now) (answers_of migrations.now) status
-        (S.left source.old) (S.left source.new)
-        (K.written sink.old) (K.written sink.new) (S.faults source.old) (S.faults source.new) (K.faults sink.old)
-        (K.faults sink.new) flash disk)) }
+        FlashRan F.Flash job.kind (converters_of migrations.now) status
+        (edges S.Source K.Sink source.old sink.old flash) (edges S.Source K.Sink source.new sink.new disk))) }
     ensures unread { IfRan result (λ status disk. IfSome (job_of (map string_bytes words.now)) (λ job.
         reads_input job.kind ≡ false → source.new ≡ source.old)) }
 
@@ -97,10 +95,8 @@ fn run_over<F: Flash, S: Source, K: Sink>(
     flash: F,
 ) -> FlashRun<F>
     requires { IsInRange kind }
-    ensures ran { IfRan result (λ status disk. FlashRan F.told F.medium kind (rules_of migrations.now)
-        (answers_of migrations.now) status
-        (S.left source.old) (S.left source.new) (K.written sink.old) (K.written sink.new)
-        (S.faults source.old) (S.faults source.new) (K.faults sink.old) (K.faults sink.new) flash disk) }
+    ensures ran { IfRan result (λ status disk. FlashRan F.Flash kind (converters_of migrations.now) status
+        (edges S.Source K.Sink source.old sink.old flash) (edges S.Source K.Sink source.new sink.new disk)) }
     ensures unread { IfRan result (λ status disk. reads_input kind ≡ false → source.new ≡ source.old) }
     ensures unopened { IfUnopened result (λ status back. IsNotOpened F.told status (F.medium flash) (F.medium back)) }
     ensures back { IfUnopened result (λ status back. IsHandedBack F.told (F.medium flash) (F.medium back)) }

@@ -3,7 +3,7 @@
 ghost use Rattle.std.specs.Prelude.{◌≡◌, ◌⊎◌};
 ghost use Rattle.disk_model.specs.Medium.{Elapses};
 ghost use Rattle.per_base.specs.Causes.{Rose};
-ghost use Rattle.per_run.specs.Jobs.{Formats};
+ghost use Rattle.per_run.specs.Jobs.{Formats, outputs};
 
 use crate::endings::{DEVICE, DONE, OUT_OF_MEMORY};
 use crate::writing::write_output;
@@ -15,8 +15,8 @@ use std::alloc::Global;
 /// Formats the disk for all applications, and writes `ok`. Gives the status.
 pub fn format<D: Disk, K: Sink>(alloc: Global, sink: &mut K, disk: &mut D) -> u8
     // By the status: what the sink took, before the call and after it, and what the disk holds.
-    ensures job { Formats D.told result (K.written sink.old) (K.written sink.new) (D.medium disk.old)
-        (D.medium disk.new) }
+    ensures job { Formats D.told result (outputs (K.written sink.old) (D.medium disk.old))
+        (outputs (K.written sink.new) (D.medium disk.new)) }
 
     // 0 where all is done, 4 where memory ran out, 3 only where the disk failed, and 6 only where the sink did.
     ensures status { (result ≡ 0) ⊎ ((result ≡ 4) ⊎ (((result ≡ 3)

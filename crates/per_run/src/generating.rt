@@ -8,9 +8,10 @@ ghost use Rattle.per_base.specs.Causes.{Rose};
 ghost use Rattle.command_text.specs.declared.replies.Reply.{Reply};
 ghost use Rattle.command_text.specs.Generated.{generated, generated_lines};
 ghost use Rattle.run_model.specs.AppLaws.{AppLaws};
+ghost use Rattle.run_model.specs.Edges.{converters_of};
 ghost use Rattle.run_model.specs.Turns.{bytes_now};
 ghost use Rattle.per_runtime.specs.Memories.{IsRuntime, memory_of};
-ghost use Rattle.per_run.specs.Jobs.{BeginWith, Generates, WritesOutput, summary};
+ghost use Rattle.per_run.specs.Jobs.{BeginWith, Generates, WritesOutput, outputs, summary};
 ghost use Rattle.per_run.specs.Serves.{FormatsWithin};
 ghost use Rattle.per_run.specs.Steps.{Counted, Goes, IsServeBegun, RunsShort, Tallies};
 
@@ -38,9 +39,9 @@ pub fn generate<D: Disk, K: Sink>(
     disk: &mut D,
 ) -> u8
     requires { number ≤ 100000 }
-    // By the rules and the answers of the converters, and the status: what the sink took, and what the disk then is.
-    ensures job { Generates D.told (rules_of migrations.now) (answers_of migrations.now) number result
-        (K.written sink.old) (K.written sink.new) (D.medium disk.old) (D.medium disk.new) }
+    // By the converters and the status: what the sink took, and what the disk then is.
+    ensures job { Generates D.told (converters_of migrations.now) number result
+        (outputs (K.written sink.old) (D.medium disk.old)) (outputs (K.written sink.new) (D.medium disk.new)) }
     // 0 where all is done, 4 where memory ran out, 3 only where the disk failed, and 6 only where the sink did.
     ensures status { (result ≡ 0) ⊎ ((result ≡ 4) ⊎ (((result ≡ 3)
         × Rose (D.medium disk.old).faults (D.medium disk.new).faults)
@@ -87,8 +88,8 @@ fn generate_on<D: Disk, K: Sink>(
     requires memory { IsRuntime D.told (D.medium disk.old) runtime }
     ensures job { (old middle : D) → IsServeBegun D.told (memory_of runtime) (D.medium old) (D.medium middle)
         (D.medium disk.old)
-        → Generates D.told (rules_of migrations.now) (answers_of migrations.now) number result (K.written sink.old)
-        (K.written sink.new) (D.medium old) (D.medium disk.new) }
+        → Generates D.told (converters_of migrations.now) number result
+        (outputs (K.written sink.old) (D.medium old)) (outputs (K.written sink.new) (D.medium disk.new)) }
     ensures status { (result ≡ 0) ⊎ ((result ≡ 4) ⊎ ((result ≡ 6) × Rose (K.faults sink.old) (K.faults sink.new))) }
     ensures time { Elapses (D.medium disk.old) (D.medium disk.new) }
 {

@@ -7,7 +7,8 @@ ghost use Rattle.per_base.specs.Errors.{error_number};
 ghost use Rattle.per_base.specs.declared.errors.PerError.{PerError};
 ghost use Rattle.deploy_laws.specs.Apps.{App};
 ghost use Rattle.deploy_rows.specs.Rows.{AnswersRow};
-ghost use Rattle.per_run.specs.Jobs.{AnswersOr, Imports, IsCaused, Makes};
+ghost use Rattle.run_model.specs.Edges.{edges, failures_at};
+ghost use Rattle.per_run.specs.Jobs.{AnswersOr, Imports, IsCaused, Makes, outputs};
 ghost use Rattle.per_run.specs.declared.words.JobKind.{JobKind};
 
 use crate::endings::{DEVICE, DONE, OUT_OF_MEMORY};
@@ -31,14 +32,14 @@ pub fn import_storage<D: Disk, S: Source, K: Sink>(
     disk: &mut D,
 ) -> u8
     requires { application < 8 }
-    // By the status: what was taken of the source, what the sink took, and what the disk then is; of each what was
-    // before the call and what is after it.
-    ensures job { Imports D.told application name.now result (S.left source.old) (S.left source.new)
-        (K.written sink.old) (K.written sink.new) (D.medium disk.old) (D.medium disk.new) }
+    // By the status: what stood at the edges before the call, and what stands there after it.
+    ensures job { Imports D.told application name.now result
+        (edges S.Source K.Sink source.old sink.old (D.medium disk.old))
+        (edges S.Source K.Sink source.new sink.new (D.medium disk.new)) }
     // A status of a failure comes only where the count of failures rose: 3 of the disk, 5 of the source, 6 of the sink.
     ensures caused { IsCaused (JobKind.Import application name.now) result
-        (record { disk = (D.medium disk.old).faults; source = S.faults source.old; sink = K.faults sink.old })
-        (record { disk = (D.medium disk.new).faults; source = S.faults source.new; sink = K.faults sink.new }) }
+        (failures_at (edges S.Source K.Sink source.old sink.old (D.medium disk.old)))
+        (failures_at (edges S.Source K.Sink source.new sink.new (D.medium disk.new))) }
     ensures time { Elapses (D.medium disk.old) (D.medium disk.new) }
 {
     match read_whole(alloc, source) {
@@ -57,8 +58,8 @@ fn import_text<D: Disk, K: Sink>(
     disk: &mut D,
 ) -> u8
     requires { application < 8 }
-    ensures made { Makes D.told application name.now text.now result (K.written sink.old) (K.written sink.new)
-        (D.medium disk.old) (D.medium disk.new) }
+    ensures made { Makes D.told (record { app = application; name = name.now; text = text.now }) result
+        (outputs (K.written sink.old) (D.medium disk.old)) (outputs (K.written sink.new) (D.medium disk.new)) }
     ensures status { ((result ≡ 0) ⊎ (result ≡ 9)) ⊎ ((result ≡ 4)
         ⊎ (((result ≡ 3) × Rose (D.medium disk.old).faults (D.medium disk.new).faults)
         ⊎ ((result ≡ 6) × Rose (K.faults sink.old) (K.faults sink.new)))) }

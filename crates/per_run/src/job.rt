@@ -2,8 +2,8 @@
 
 ghost use Rattle.std.specs.Prelude.{◌≡◌, ◌⊎◌, IfSome, None, false, map, string_bytes};
 ghost use Rattle.disk_model.specs.Medium.{Elapses};
-ghost use Rattle.migrate_fns.specs.Stored.{answers_of, rules_of};
 ghost use Rattle.per_base.specs.Causes.{Rose};
+ghost use Rattle.run_model.specs.Edges.{converters_of, edges, failures_at};
 ghost use Rattle.run_model.specs.Lines.{IsWellFormed};
 ghost use Rattle.per_run.specs.Jobs.{IsCaused, JobDone};
 ghost use Rattle.per_run.specs.Steps.{IsInRange};
@@ -59,14 +59,11 @@ pub fn per_run<D: Disk, S: Source, K: Sink>(
     // What the job promises (`JobDone`), and that a status of a failure comes only where the count of failures rose. A
     // job that reads no input takes nothing of the source.
     ensures job { IfSome (job_of (map string_bytes words.now))
-        (λ job. JobDone D.told D.medium job.kind (rules_of migrations.now) (answers_of migrations.now) result
-        (S.left source.old) (S.left source.new) (K.written sink.old) (K.written sink.new)
-        (record { disk = (D.medium disk.old).faults; source = S.faults source.old; sink = K.faults sink.old })
-        (record { disk = (D.medium disk.new).faults; source = S.faults source.new; sink = K.faults sink.new })
-        disk.old disk.new) }
+        (λ job. JobDone D.Disk job.kind (converters_of migrations.now) result
+        (edges S.Source K.Sink source.old sink.old disk.old) (edges S.Source K.Sink source.new sink.new disk.new)) }
     ensures caused { IfSome (job_of (map string_bytes words.now)) (λ job. IsCaused job.kind result
-        (record { disk = (D.medium disk.old).faults; source = S.faults source.old; sink = K.faults sink.old })
-        (record { disk = (D.medium disk.new).faults; source = S.faults source.new; sink = K.faults sink.new })) }
+        (failures_at (edges S.Source K.Sink source.old sink.old (D.medium disk.old)))
+        (failures_at (edges S.Source K.Sink source.new sink.new (D.medium disk.new)))) }
     ensures unread { IfSome (job_of (map string_bytes words.now))
         (λ job. reads_input job.kind ≡ false → source.new ≡ source.old) }
 
@@ -97,18 +94,14 @@ pub fn run_job<D: Disk, S: Source, K: Sink>(
     disk: &mut D,
 ) -> u8
     requires { IsInRange kind }
-    // What the job promises by its status (`JobDone`), of the source, the sink, the counts of their failures, and the
-    // disk.
-    ensures job { JobDone D.told D.medium kind (rules_of migrations.now) (answers_of migrations.now) result
-        (S.left source.old) (S.left source.new) (K.written sink.old) (K.written sink.new)
-        (record { disk = (D.medium disk.old).faults; source = S.faults source.old; sink = K.faults sink.old })
-        (record { disk = (D.medium disk.new).faults; source = S.faults source.new; sink = K.faults sink.new })
-        disk.old disk.new }
+    // What the job promises by its status (`JobDone`), of the source, the sink and the disk.
+    ensures job { JobDone D.Disk kind (converters_of migrations.now) result
+        (edges S.Source K.Sink source.old sink.old disk.old) (edges S.Source K.Sink source.new sink.new disk.new) }
     // A status of a failure comes only where the count of failures rose: 3 of the disk, 5 of the source, 6 of the sink.
     // A job that reads no input takes nothing of the source.
     ensures caused { IsCaused kind result
-        (record { disk = (D.medium disk.old).faults; source = S.faults source.old; sink = K.faults sink.old })
-        (record { disk = (D.medium disk.new).faults; source = S.faults source.new; sink = K.faults sink.new }) }
+        (failures_at (edges S.Source K.Sink source.old sink.old (D.medium disk.old)))
+        (failures_at (edges S.Source K.Sink source.new sink.new (D.medium disk.new))) }
     ensures unread { reads_input kind ≡ false → source.new ≡ source.old }
     ensures time { Elapses (D.medium disk.old) (D.medium disk.new) }
 {

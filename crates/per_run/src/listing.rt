@@ -2,7 +2,7 @@
 
 ghost use Rattle.std.specs.Prelude.{ℕ};
 ghost use Rattle.disk_model.specs.Medium.{Elapses};
-ghost use Rattle.per_run.specs.Jobs.{IsCaused, Lists};
+ghost use Rattle.per_run.specs.Jobs.{IsCaused, Lists, outputs};
 ghost use Rattle.per_run.specs.declared.words.JobKind.{JobKind};
 
 use crate::endings::{DEVICE, DONE, OUT_OF_MEMORY};
@@ -16,8 +16,8 @@ use std::alloc::Global;
 /// Says in this form what is on the disk, and changes nothing of it. Gives the status.
 pub fn list_disk<D: Disk, K: Sink>(alloc: Global, form: Form, sink: &mut K, disk: &mut D) -> u8
     // By the status: what the sink took, before the call and after it; and of the disk that nothing changed.
-    ensures job { Lists D.told form result (K.written sink.old) (K.written sink.new) (D.medium disk.old)
-        (D.medium disk.new) }
+    ensures job { Lists D.told form result (outputs (K.written sink.old) (D.medium disk.old))
+        (outputs (K.written sink.new) (D.medium disk.new)) }
     // A status of a failure comes only where the count of failures rose: 3 of the disk, 6 of the sink. The job does not
     // call the source, so that it is said of any count of it.
     ensures caused { (source : ℕ) → IsCaused (JobKind.Listing form) result

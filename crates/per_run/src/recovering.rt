@@ -3,7 +3,7 @@
 ghost use Rattle.std.specs.Prelude.{◌≡◌, ◌⊎◌, ◌<◌, ℕ};
 ghost use Rattle.disk_model.specs.Medium.{Elapses};
 ghost use Rattle.root_recovery.specs.Recoveries.{IsRefused, row_answered};
-ghost use Rattle.per_run.specs.Jobs.{IsCaused, Recovers};
+ghost use Rattle.per_run.specs.Jobs.{IsCaused, Recovers, outputs};
 ghost use Rattle.per_run.specs.declared.words.JobKind.{JobKind};
 
 use crate::endings::{CALL_REFUSED, DEVICE, DONE, OUT_OF_MEMORY};
@@ -18,8 +18,8 @@ use std::alloc::Global;
 pub fn recover<D: Disk, K: Sink>(alloc: Global, application: u32, sink: &mut K, disk: &mut D) -> u8
     requires { application < 8 }
     // By the status: what the sink took, before the call and after it, and what the disk then is.
-    ensures job { Recovers D.told application result (K.written sink.old) (K.written sink.new) (D.medium disk.old)
-        (D.medium disk.new) }
+    ensures job { Recovers D.told application result (outputs (K.written sink.old) (D.medium disk.old))
+        (outputs (K.written sink.new) (D.medium disk.new)) }
     // A status of a failure comes only where the count of failures rose: 3 of the disk, 6 of the sink. The job does not
     // call the source, so that it is said of any count of it.
     ensures caused { (source : ℕ) → IsCaused (JobKind.RecoverRoot application) result

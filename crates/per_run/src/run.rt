@@ -5,6 +5,7 @@ ghost use Rattle.disk_model.specs.Medium.{Elapses};
 ghost use Rattle.migrate_fns.specs.Stored.{answers_of, rules_of};
 ghost use Rattle.per_base.specs.Causes.{Rose};
 ghost use Rattle.run_model.specs.AppLaws.{AppLaws};
+ghost use Rattle.run_model.specs.Edges.{converters_of, edges};
 ghost use Rattle.run_model.specs.Runs.{Run};
 ghost use Rattle.per_runtime.specs.Memories.{IsRuntime, memory_of};
 ghost use Rattle.per_run.specs.Steps.{Blamed, Handled, RanOverInput, Reached};
@@ -28,12 +29,10 @@ pub fn run<D: Disk, S: Source, K: Sink>(
     sink: &mut K,
     disk: &mut D,
 ) -> u8
-    // By the rules and the answers of the converters: the status, what is left of the source, what the sink took, how
-    // many calls of each failed, and the disk; of each what was before the call, and what is after it.
-    ensures run { Run D.told (rules_of migrations.now) (answers_of migrations.now) result (S.left source.old)
-        (S.left source.new) (K.written sink.old) (K.written sink.new)
-        (S.faults source.old) (S.faults source.new) (K.faults sink.old) (K.faults sink.new) (D.medium disk.old)
-        (D.medium disk.new) }
+    // By the converters and the status: what stood at the edges before the call, and what stands there after it.
+    ensures run { Run D.told (converters_of migrations.now) result
+        (edges S.Source K.Sink source.old sink.old (D.medium disk.old))
+        (edges S.Source K.Sink source.new sink.new (D.medium disk.new)) }
     ensures time { Elapses (D.medium disk.old) (D.medium disk.new) }
 {
     applications_stand();

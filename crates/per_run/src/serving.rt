@@ -6,6 +6,7 @@ ghost use Rattle.disk_model.specs.Medium.{Elapses};
 ghost use Rattle.migrate_fns.specs.Stored.{answers_of, rules_of};
 ghost use Rattle.per_base.specs.Causes.{Rose};
 ghost use Rattle.run_model.specs.AppLaws.{AppLaws};
+ghost use Rattle.run_model.specs.Edges.{converters_of, edges};
 ghost use Rattle.run_model.specs.Lines.{lines_of};
 ghost use Rattle.per_runtime.specs.Memories.{IsRuntime, memory_of};
 ghost use Rattle.per_run.specs.Serves.{Heard, Serves, lines_in, next_line_number};
@@ -35,11 +36,9 @@ pub fn serve<D: Disk, S: Source, K: Sink>(
     sink: &mut K,
     disk: &mut D,
 ) -> u8
-    // By the rules and the answers of the converters: the status, what is left of the source, what the sink took, how
-    // many calls of each failed, and the disk; of each what was before the call, and what is after it.
-    ensures serves { Serves D.told D.medium (rules_of migrations.now) (answers_of migrations.now) result
-        (S.left source.old) (S.left source.new) (K.written sink.old) (K.written sink.new)
-        (S.faults source.old) (S.faults source.new) (K.faults sink.old) (K.faults sink.new) disk.old disk.new }
+    // By the converters and the status: what stood at the edges before the call, and what stands there after it.
+    ensures serves { Serves D.Disk (converters_of migrations.now) result
+        (edges S.Source K.Sink source.old sink.old disk.old) (edges S.Source K.Sink source.new sink.new disk.new) }
 
     // To what crashes since an earlier moment might have left the call only adds; and no count falls.
     ensures time { Elapses (D.medium disk.old) (D.medium disk.new) }
