@@ -21,9 +21,10 @@ use Rattle.per_run.specs.declared.endings.Ending.{Ending}
 use Rattle.per_run.specs.declared.endings.Ending.TheVariants.{AllRead, EndLine, BadLine, OutOfMemory, Source, Sink}
 use Rattle.per_run.specs.declared.endings.Ending.TheVariants.{TooLong}
 use Rattle.per_run.specs.Jobs.{AnswersOr, Audits, CameToOutput, Exports, FailsAtThree, Imports, IsInputTaken}
-use Rattle.per_run.specs.Jobs.{IsUncalled, Lists, Makes, Recovers, WritesOutput, error_line}
+use Rattle.per_run.specs.Jobs.{IsUncalled, Lists, Makes, Recovers, WritesOutput, error_line, outputs}
 use Rattle.per_run.specs.Steps.{Breaks, IsCut, ending_of}
 use Rattle.per_run.proofs.Outputs.{not_done, not_read, writes_as, writes_none}
+use Rattle.run_model.specs.Edges.{Edges}
 use Rattle.run_model.specs.Endings.{ending_status}
 use Rattle.run_model.specs.Lives.{LooksOnly, looks_none}
 
@@ -31,7 +32,7 @@ use Rattle.run_model.specs.Lives.{LooksOnly, looks_none}
 
 pub audits_none : (told : Bool) (status : ℕ) (now : Option (List ℕ)) (old new : Medium) → (status ≡ 3) ⊎ (status ≡ 4)
     → LooksOnly old new → FailsAtThree status old.faults new.faults
-    → Audits told status now now old new
+    → Audits told status (outputs now old) (outputs now new)
 audits_none told status now old new is stays failed = record {
   elements = elements_at old.image;
   findings = findings_at old.image;
@@ -57,7 +58,7 @@ unsound_some findings is none = let bad : is_sound [] ≡ false =
 
 pub lists_none : (told : Bool) (form : Form) (status : ℕ) (now : Option (List ℕ)) (old new : Medium)
     → (status ≡ 3) ⊎ (status ≡ 4) → LooksOnly old new → FailsAtThree status old.faults new.faults
-    → Lists told form status now now old new
+    → Lists told form status (outputs now old) (outputs now new)
 lists_none told form status now old new is stays failed = record {
   text = listing_text form old.image;
   text_is = λ tells. refl;
@@ -72,7 +73,7 @@ lists_none told form status now old new is stays failed = record {
 pub recovers_none : (told : Bool) (app status : ℕ) (now : Option (List ℕ)) (old new : Medium)
     → (status ≡ 3) ⊎ (status ≡ 4) → (IsTrue told → RecoveryKeeps app old new)
     → new.written ≤ old.written + most_written → FailsAtThree status old.faults new.faults
-    → Recovers told app status now now old new
+    → Recovers told app status (outputs now old) (outputs now new)
 recovers_none told app status now old new is keeps cost failed = record {
   row = none_left;
   ended = λ tells came. absurd (not_done status is came);
@@ -162,7 +163,7 @@ answers_as text row same status before now is answers =
 
 pub exports_none : (told : Bool) (app : ℕ) (name : List ℕ) (status : ℕ) (now : Option (List ℕ)) (old new : Medium)
     → (status ≡ 3) ⊎ (status ≡ 4) → LooksOnly old new → FailsAtThree status old.faults new.faults
-    → Exports told app name status now now old new
+    → Exports told app name status (outputs now old) (outputs now new)
 exports_none told app name status now old new is stays failed = record {
   it = app_at old.image app;
   seen = λ tells. refl;
@@ -212,11 +213,12 @@ some_refused (Some e) row answers is = refl
 pub makes_none : (told : Bool) (app : ℕ) (name text : List ℕ) (status : ℕ) (now : Option (List ℕ)) (old new : Medium)
     → (status ≡ 3) ⊎ (status ≡ 4) → (IsTrue told → ImportKeeps app name text old new)
     → (IsTrue told → WritesImport app name text old new)
-    → FailsAtThree status old.faults new.faults → Makes told app name text status now now old new
+    → FailsAtThree status old.faults new.faults
+    → Makes told (record { app = app; name = name; text = text }) status (outputs now old) (outputs now new)
 makes_none told app name text status now old new is keeps written failed = record {
   it = app_at old.image app;
   seen = λ tells. refl;
-  answers = answers_none (λ after. codes "ok\n") (importing_into (app_at old.image app) name text) status now is;
+  answers = answers_none (λ made. codes "ok\n") (importing_into (app_at old.image app) name text) status now is;
   refused = λ done. absurd (not_done status is done);
   imported = λ tells done. absurd (not_done status is done);
   keeps = keeps;
@@ -226,7 +228,7 @@ makes_none told app name text status now old new is keeps written failed = recor
 }
 
 -- the input was not read whole
-pub uncalled : {told : Bool} {m : Medium} (now : Option (List ℕ)) → IsLawful told m → IsUncalled now now m m
+pub uncalled : {told : Bool} {m : Medium} (now : Option (List ℕ)) → IsLawful told m → IsUncalled (outputs now m) (outputs now m)
 uncalled now lawful = record {
   output = Keeps-refl now;
   stays = looks_none lawful;
@@ -272,11 +274,15 @@ not_called status count (inr (inr seven)) (inr three) = omega (arith, seven.0, t
 untrue : false ≡ true → ⊥
 untrue is = cc
 
-pub imports_cut : (told : Bool) (app : ℕ) (name : List ℕ) (ending : Ending) (status : ℕ)
-    (left_before left_now now : Option (List ℕ)) (m : Medium) → IsLawful told m
-    → status ≡ ending_status (ending_of ending) → Breaks left_before left_now ending
-    → Imports told app name status left_before left_now now now m m
-imports_cut told app name ending status left_before left_now now m lawful is breaks =
+-- `before`, with what the source then has left and how many of its calls have failed
+abbrev pub with_source : (before : Edges Medium) → (left : Option (List ℕ)) → (source_failures : ℕ) → Edges Medium
+with_source before left source_failures = record before { left = left; source_failures = source_failures }
+
+pub imports_cut : (told : Bool) (app : ℕ) (name : List ℕ) (ending : Ending) (status : ℕ) (before : Edges Medium)
+    (left : Option (List ℕ)) (source_failures : ℕ) → IsLawful told before.disk
+    → status ≡ ending_status (ending_of ending) → Breaks before.left left ending
+    → Imports told app name status before (with_source before left source_failures)
+imports_cut told app name ending status before left source_failures lawful is breaks =
     let as_is : CutAs status (length breaks.given) = cut_as ending status (length breaks.given) is breaks.cut in
     record {
       given = breaks.given;
@@ -285,7 +291,7 @@ imports_cut told app name ending status left_before left_now now m lawful is bre
       broken = λ five. (refl, short_at status (length breaks.given) as_is five);
       too_long = λ seven. (refl, long_at status (length breaks.given) as_is seven);
       called = λ called. absurd (not_called status (length breaks.given) as_is called);
-      uncalled = λ open_still. uncalled now lawful;
+      uncalled = λ open_still. uncalled before.taken lawful;
       made = λ ended. absurd (untrue ended);
     }
 
@@ -304,13 +310,13 @@ by_status status R Q (inr (inl four)) = inr (inl four)
 by_status status R Q (inr (inr (inl three))) = inr (inr (inl three.0))
 by_status status R Q (inr (inr (inr six))) = inr (inr (inr six.0))
 
-pub imports_read : (told : Bool) (app : ℕ) (name text given : List ℕ) (status : ℕ)
-    (left_before left_now before now : Option (List ℕ)) (old new : Medium) (R Q : Type 0) → text ≡ given
-    → IsInputTaken left_before left_now given true
+pub imports_read : (told : Bool) (app : ℕ) (name text given : List ℕ) (status : ℕ) (before after : Edges Medium)
+    (R Q : Type 0) → text ≡ given → IsInputTaken before.left after.left given true
     → ((status ≡ 0) ⊎ (status ≡ 9)) ⊎ ((status ≡ 4) ⊎ (((status ≡ 3) × R) ⊎ ((status ≡ 6) × Q)))
-    → Makes told app name text status before now old new
-    → Imports told app name status left_before left_now before now old new
-imports_read told app name text given status left_before left_now before now old new R Q is taken ends makes =
+    → Makes told (record { app = app; name = name; text = text }) status (outputs before.taken before.disk)
+    (outputs after.taken after.disk)
+    → Imports told app name status before after
+imports_read told app name text given status before after R Q is taken ends makes =
     let apart : (status ≡ 5 → ⊥) × (status ≡ 7 → ⊥) = called_at status (by_status status R Q ends) in
     record {
       given = given;
@@ -320,5 +326,6 @@ imports_read told app name text given status left_before left_now before now old
       too_long = λ seven. absurd (apart.1 seven);
       called = λ called. refl;
       uncalled = λ unseen. absurd (untrue (sym unseen));
-      made = λ ended. subst (λ (t : List ℕ). Makes told app name t status before now old new) is makes;
+      made = λ ended. subst (λ (t : List ℕ). Makes told (record { app = app; name = name; text = t }) status
+          (outputs before.taken before.disk) (outputs after.taken after.disk)) is makes;
     }

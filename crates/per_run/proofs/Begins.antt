@@ -6,8 +6,9 @@ use Rattle.disk_model.specs.Medium.{Medium, IsLawful, Elapses}
 use Rattle.migrate_fns.specs.Rules.{Rule, Answers}
 use Rattle.per_base.specs.Causes.{Rose}
 use Rattle.run_model.specs.AppLaws.{AppLaws}
+use Rattle.run_model.specs.Edges.{Converters, Edges, failures_at}
 use Rattle.run_model.specs.Endings as endings
-use Rattle.run_model.specs.Endings.{HasCauseOf, ending_status}
+use Rattle.run_model.specs.Endings.{FailureCounts, HasCauseOf, ending_status}
 use Rattle.run_model.specs.RunLaws.{start_disk}
 use Rattle.run_model.specs.Runs.{Run}
 use Rattle.run_model.specs.Runtimes.{Memory, Starts, StartKeeps}
@@ -52,12 +53,23 @@ unbegun told m lawful = record {
   written = omega arith;
 }
 
+-- nothing was taken and nothing written
+abbrev pub still {ℓ} : {D : Type ℓ} → (left taken : Option (List ℕ)) → (source_failures sink_failures : ℕ) → D → Edges D
+still left taken source_failures sink_failures disk = record {
+  left = left;
+  taken = taken;
+  source_failures = source_failures;
+  sink_failures = sink_failures;
+  disk = disk;
+}
+
 -- a run that did not come to its lines
-pub run_none : AppLaws → (told : Bool) (rules : List Rule) (answers : Answers) (left before : Option (List ℕ))
-    (source sink : ℕ) (old new : Medium) (status : ℕ)
-    → IsLawful told new → Elapses old new → (IsTrue told → StartKeeps old new) → status ≡ 3 → Rose old.faults new.faults
-    → Run told rules answers status left left before before source source sink sink old new
-run_none laws told rules answers left before source sink old new status lawful time keeps is rose = record {
+pub run_none : AppLaws → (told : Bool) (converters : Converters) (status : ℕ) (left taken : Option (List ℕ))
+    (source_failures sink_failures : ℕ) (old new : Medium) → IsLawful told new → Elapses old new
+    → (IsTrue told → StartKeeps old new) → status ≡ 3 → Rose old.faults new.faults
+    → Run told converters status (still left taken source_failures sink_failures old)
+    (still left taken source_failures sink_failures new)
+run_none laws told converters status left taken source_failures sink_failures old new lawful time keeps is rose = record {
   ending = endings.device;
   status_is = is;
   given = [];
@@ -69,19 +81,20 @@ run_none laws told rules answers left before source sink old new status lawful t
   lines = [];
   turns = [];
   gives = refl;
-  ends = record { no_line = refl; no_turn = refl; wrote = Appends-nil before };
+  ends = record { no_line = refl; no_turn = refl; wrote = Appends-nil taken };
   cause = rose;
   failures = record { last = old.faults; blamed = refl; later = time.faults; passes = λ over. absurd over };
   time = time;
-  disk = λ tells. start_disk laws rules answers endings.device before before told old new lawful time (λ begun. begun)
-      (keeps tells);
+  disk = λ tells. start_disk laws converters.rules converters.answers endings.device taken taken told old new lawful
+      time (λ begun. begun) (keeps tells);
 }
 
-pub run_short : AppLaws → (told : Bool) (rules : List Rule) (answers : Answers) (left before : Option (List ℕ))
-    (source sink : ℕ) (old new : Medium) (status : ℕ)
-    → IsLawful told new → Elapses old new → (IsTrue told → StartKeeps old new) → status ≡ 4
-    → Run told rules answers status left left before before source source sink sink old new
-run_short laws told rules answers left before source sink old new status lawful time keeps is = record {
+pub run_short : AppLaws → (told : Bool) (converters : Converters) (status : ℕ) (left taken : Option (List ℕ))
+    (source_failures sink_failures : ℕ) (old new : Medium) → IsLawful told new → Elapses old new
+    → (IsTrue told → StartKeeps old new) → status ≡ 4
+    → Run told converters status (still left taken source_failures sink_failures old)
+    (still left taken source_failures sink_failures new)
+run_short laws told converters status left taken source_failures sink_failures old new lawful time keeps is = record {
   ending = endings.start_memory;
   status_is = is;
   given = [];
@@ -93,12 +106,12 @@ run_short laws told rules answers left before source sink old new status lawful 
   lines = [];
   turns = [];
   gives = refl;
-  ends = record { no_line = refl; no_turn = refl; wrote = Appends-nil before };
+  ends = record { no_line = refl; no_turn = refl; wrote = Appends-nil taken };
   cause = tt;
   failures = record { last = old.faults; blamed = refl; later = time.faults; passes = λ over. absurd over };
   time = time;
-  disk = λ tells. start_disk laws rules answers endings.start_memory before before told old new lawful time
-      (λ begun. begun) (keeps tells);
+  disk = λ tells. start_disk laws converters.rules converters.answers endings.start_memory taken taken told old new lawful
+      time (λ begun. begun) (keeps tells);
 }
 
 -- the same memory under another name
@@ -109,43 +122,40 @@ pub handled_as : (told : Bool) (rules : List Rule) (answers : Answers) (start : 
 handled_as told rules answers start before lines now memory same medium is handled =
     subst (λ (m : Memory). Handled told rules answers start before lines now m medium) (sym is) handled
 
+-- why it ended
+pub cause_of : (ending : Way) (before after : FailureCounts) → (ending ≡ ways.Source → Rose before.source after.source)
+    → (ending ≡ ways.Sink → Rose before.sink after.sink) → HasCauseOf (ending_of ending) before after
+cause_of ways.AllRead before after by_source by_sink = tt
+cause_of ways.EndLine before after by_source by_sink = tt
+cause_of ways.BadLine before after by_source by_sink = tt
+cause_of ways.OutOfMemory before after by_source by_sink = tt
+cause_of ways.Source before after by_source by_sink = by_source refl
+cause_of ways.Sink before after by_source by_sink = by_sink refl
+cause_of ways.TooLong before after by_source by_sink = tt
+
 -- a run that came to its lines
-pub run_from : (told : Bool) (rules : List Rule) (answers : Answers) (ending : Way)
-    (left_before left_now before now : Option (List ℕ)) (source_before source_now sink_before sink_now : ℕ)
-    (old new : Medium) (status : ℕ) → Elapses old new → status ≡ ending_status (ending_of ending)
-    → (ending ≡ ways.Source → Rose source_before source_now)
-    → Blamed ending sink_before sink_now → RanOverInput told rules answers ending old left_before left_now before now
-    new
-    → Run told rules answers status left_before left_now before now source_before source_now sink_before sink_now old
-    new
-run_from told rules answers ending left_before left_now before now source_before source_now sink_before sink_now old new
-    status time is source blamed ran = record {
-      ending = ending_of ending;
-      status_is = is;
-      given = ran.given;
-      taken = ran.taken;
-      bound = ran.bound;
-      ended = ran.ended;
-      end_seen = ran.end_seen;
-      input = ran.input;
-      lines = ran.course.lines;
-      turns = ran.course.turns;
-      gives = ran.course.gives;
-      ends = ran.course.ends;
-      cause = cause_of ending source blamed.sink;
-      failures = ran.course.failures;
-      time = time;
-      disk = ran.course.disk;
-    }
-  where
-    cause_of : (e : Way) → (e ≡ ways.Source → Rose source_before source_now)
-        → (e ≡ ways.Sink → Rose sink_before sink_now)
-        → HasCauseOf (ending_of e) (record { disk = old.faults; source = source_before; sink = sink_before })
-        (record { disk = new.faults; source = source_now; sink = sink_now })
-    cause_of ways.AllRead by_source by_sink = tt
-    cause_of ways.EndLine by_source by_sink = tt
-    cause_of ways.BadLine by_source by_sink = tt
-    cause_of ways.OutOfMemory by_source by_sink = tt
-    cause_of ways.Source by_source by_sink = by_source refl
-    cause_of ways.Sink by_source by_sink = by_sink refl
-    cause_of ways.TooLong by_source by_sink = tt
+pub run_from : (told : Bool) (converters : Converters) (ending : Way) (status : ℕ) (before after : Edges Medium)
+    → Elapses before.disk after.disk → status ≡ ending_status (ending_of ending)
+    → (ending ≡ ways.Source → Rose before.source_failures after.source_failures)
+    → Blamed ending before.sink_failures after.sink_failures
+    → RanOverInput told converters.rules converters.answers ending before.disk before.left after.left before.taken
+    after.taken after.disk
+    → Run told converters status before after
+run_from told converters ending status before after time is source blamed ran = record {
+  ending = ending_of ending;
+  status_is = is;
+  given = ran.given;
+  taken = ran.taken;
+  bound = ran.bound;
+  ended = ran.ended;
+  end_seen = ran.end_seen;
+  input = ran.input;
+  lines = ran.course.lines;
+  turns = ran.course.turns;
+  gives = ran.course.gives;
+  ends = ran.course.ends;
+  cause = cause_of ending (failures_at before) (failures_at after) source blamed.sink;
+  failures = ran.course.failures;
+  time = time;
+  disk = ran.course.disk;
+}

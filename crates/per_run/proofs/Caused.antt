@@ -19,9 +19,10 @@ use Rattle.per_base.specs.Names.{is_name}
 use Rattle.per_list.specs.declared.forms.Form.TheVariants as form
 use Rattle.disk_model.specs.Laws.{elapses_none, reads_none, rose_before}
 use Rattle.disk_model.specs.Medium.{Medium, IsLawful}
-use Rattle.migrate_fns.specs.Rules.{Rule, Answers}
+use Rattle.disk_model.specs.declared.disk.Disk.{Ghosts as DiskOf}
 use Rattle.command_text.specs.Reading.{is_application_digit}
 use Rattle.run_model.specs.AppLaws.{AppLaws}
+use Rattle.run_model.specs.Edges.{Converters, Edges, failures_at, modelled}
 use Rattle.run_model.specs.Endings as endings
 use Rattle.run_model.specs.Endings.{Ending, FailureCounts, HasCauseOf, ending_status}
 use Rattle.run_model.specs.Lines.{IsWellFormed}
@@ -65,14 +66,9 @@ ended_so endings.source status b n is cause = by_source is refl cause
 ended_so endings.sink status b n is cause = by_sink is cause
 ended_so endings.too_long status b n is cause = by_itself (among status 7 (statuses_of Run) is (3, omega arith, refl))
 
-pub run_caused : (told : Bool) (rules : List Rule) (answers : Answers) (status : ℕ)
-    (left_before left_now before now : Option (List ℕ)) (source_before source_now sink_before sink_now : ℕ)
-    (old new : Medium) → runs.Run told rules answers status left_before left_now before now source_before source_now
-    sink_before sink_now old new
-    → IsCaused Run status (record { disk = old.faults; source = source_before; sink = sink_before })
-    (record { disk = new.faults; source = source_now; sink = sink_now })
-run_caused told rules answers status left_before left_now before now source_before source_now sink_before sink_now old
-    new r = ended_so r.ending status _ _ r.status_is r.cause
+pub run_caused : (told : Bool) (converters : Converters) (status : ℕ) (before after : Edges Medium)
+    → runs.Run told converters status before after → IsCaused Run status (failures_at before) (failures_at after)
+run_caused told converters status before after r = ended_so r.ending status _ _ r.status_is r.cause
 
 -- a run that stays
 stayed_so : (P : Type 0) (ending : Ending) (heard : List Heard) (all : List (List ℕ)) (before now : Option (List ℕ))
@@ -103,23 +99,16 @@ since_earlier kind status earlier later source sink n le (by_disk is rose) =
 since_earlier kind status earlier later source sink n le (by_source is reads rose) = by_source is reads rose
 since_earlier kind status earlier later source sink n le (by_sink is rose) = by_sink is rose
 
-pub serve_caused : {D : Type 0} (told : Bool) (medium : D → Medium) (rules : List Rule) (answers : Answers)
-    (status : ℕ) (left_before left_now before now : Option (List ℕ))
-    (source_before source_now sink_before sink_now : ℕ) (old new : D)
-    → Serves told medium rules answers status left_before left_now before now source_before source_now sink_before
-    sink_now old new
-    → IsCaused Serve status
-    (record { disk = (medium old).faults; source = source_before; sink = sink_before })
-    (record { disk = (medium new).faults; source = source_now; sink = sink_now })
-serve_caused told medium rules answers status left_before left_now before now source_before source_now sink_before
-    sink_now old new (served start prepared s) =
-    since_earlier Serve status (medium old).faults (medium start).faults source_before sink_before _
-    (earlier_start told medium old start prepared)
-    (stayed_so _ s.ending s.heard _ before now status _ _ s.ends s.status_is s.cause)
-serve_caused told medium rules answers status left_before left_now before now source_before source_now sink_before
-    sink_now old new (unprepared nothing (inl failed) left_same same) = by_disk failed.0 failed.1
-serve_caused told medium rules answers status left_before left_now before now source_before source_now sink_before
-    sink_now old new (unprepared nothing (inr four) left_same same) =
+pub serve_caused : {D : Type 0} (of_disk : DiskOf D) (converters : Converters) (status : ℕ) (before after : Edges D)
+    → Serves of_disk converters status before after
+    → IsCaused Serve status (failures_at (modelled of_disk before)) (failures_at (modelled of_disk after))
+serve_caused of_disk converters status before after (served start prepared s) =
+    since_earlier Serve status (of_disk.medium before.disk).faults (of_disk.medium start).faults before.source_failures
+    before.sink_failures _ (earlier_start of_disk.told of_disk.medium before.disk start prepared)
+    (stayed_so _ s.ending s.heard _ before.taken after.taken status _ _ s.ends s.status_is s.cause)
+serve_caused of_disk converters status before after (unprepared nothing (inl failed) left_same same) =
+    by_disk failed.0 failed.1
+serve_caused of_disk converters status before after (unprepared nothing (inr four) left_same same) =
     by_itself (among status 4 (statuses_of Serve) four (1, omega arith, refl))
 
 -- a job that writes once
@@ -248,14 +237,11 @@ not_one kind status b n (by_sink six rose) is = omega (arith, six, is)
 
 -- ---- the same of a kind by another name
 
-pub done_as : {D : Type 0} (told : Bool) (medium : D → Medium) (kind same : JobKind) (rules : List Rule)
-    (answers : Answers) (status : ℕ)
-    (left left_now before now : Option (List ℕ)) (b n : FailureCounts) (old new : D) → kind ≡ same
-    → JobDone told medium same rules answers status left left_now before now b n old new
-    → JobDone told medium kind rules answers status left left_now before now b n old new
-done_as told medium kind same rules answers status left left_now before now b n old new is done =
-    subst (λ (k : JobKind). JobDone told medium k rules answers status left left_now before now b n old new) (sym is)
-    done
+pub done_as : {D : Type 0} (of_disk : DiskOf D) (kind same : JobKind) (converters : Converters) (status : ℕ)
+    (before after : Edges D) → kind ≡ same → JobDone of_disk same converters status before after
+    → JobDone of_disk kind converters status before after
+done_as of_disk kind same converters status before after is done =
+    subst (λ (k : JobKind). JobDone of_disk k converters status before after) (sym is) done
 
 pub caused_as : (kind same : JobKind) (status : ℕ) (b n : FailureCounts) → kind ≡ same → IsCaused same status b n
     → IsCaused kind status b n
@@ -284,40 +270,40 @@ some_none {P} o job some none = let bad : ◌≡◌ {A = Option Job} (Some job) 
 
 -- ---- a job for whose words there was no memory
 
-pub done_none : {D : Type 0} → AppLaws → (told : Bool) (medium : D → Medium) (kind : JobKind) (rules : List Rule)
-    (answers : Answers) (left before : Option (List ℕ)) (source sink : ℕ) (disk : D) → IsLawful told (medium disk)
-    → JobDone told medium kind rules answers 4 left left before before
-    (record { disk = (medium disk).faults; source = source; sink = sink })
-    (record { disk = (medium disk).faults; source = source; sink = sink }) disk disk
-done_none laws told medium Run rules answers left before source sink disk lawful =
-    run_short laws told rules answers left before source sink (medium disk) (medium disk) 4 lawful (elapses_none lawful)
-    (λ tells. unbegun told (medium disk) lawful) refl
-done_none laws told medium Serve rules answers left before source sink disk lawful =
-    serves_short laws told medium rules answers left before source sink disk disk lawful (elapses_none lawful)
-    (inr (inr (reads_none lawful)))
-done_none laws told medium Format rules answers left before source sink disk lawful =
-    formats_none told 4 before (medium disk) (medium disk) (inr refl) (λ tells file is. refl) (omega arith)
-    (λ unfailed. refl)
-done_none laws told medium (Generate n) rules answers left before source sink disk lawful =
-    generates_none told rules answers n 4 before (medium disk) (medium disk) (inr refl) (elapses_none lawful).faults
-    (λ tells. formats_still (medium disk))
-done_none laws told medium Audit rules answers left before source sink disk lawful =
-    audits_none told 4 before (medium disk) (medium disk) (inr refl) (looks_none lawful) (λ unfailed. refl)
-done_none laws told medium (Listing f) rules answers left before source sink disk lawful =
-    lists_none told f 4 before (medium disk) (medium disk) (inr refl) (looks_none lawful) (λ unfailed. refl)
-done_none laws told medium (Export app name) rules answers left before source sink disk lawful =
-    exports_none told app name 4 before (medium disk) (medium disk) (inr refl) (looks_none lawful)
-    (λ unfailed. refl)
-done_none laws told medium (Import app name) rules answers left before source sink disk lawful =
-    imports_cut told app name part.OutOfMemory 4 left left before (medium disk) lawful refl
+pub done_none : {D : Type 0} → AppLaws → (of_disk : DiskOf D) (kind : JobKind) (converters : Converters)
+    (at : Edges D) → IsLawful of_disk.told (of_disk.medium at.disk) → JobDone of_disk kind converters 4 at at
+done_none laws of_disk Run converters at lawful =
+    run_short laws of_disk.told converters 4 at.left at.taken at.source_failures at.sink_failures
+    (of_disk.medium at.disk) (of_disk.medium at.disk) lawful (elapses_none lawful)
+    (λ tells. unbegun of_disk.told (of_disk.medium at.disk) lawful) refl
+done_none laws of_disk Serve converters at lawful =
+    serves_short laws of_disk converters at.left at.taken at.source_failures at.sink_failures at.disk at.disk lawful
+    (elapses_none lawful) (inr (inr (reads_none lawful)))
+done_none laws of_disk Format converters at lawful =
+    formats_none of_disk.told 4 at.taken (of_disk.medium at.disk) (of_disk.medium at.disk) (inr refl)
+    (λ tells file is. refl) (omega arith) (λ unfailed. refl)
+done_none laws of_disk (Generate n) converters at lawful =
+    generates_none of_disk.told converters n 4 at.taken (of_disk.medium at.disk) (of_disk.medium at.disk) (inr refl)
+    (elapses_none lawful).faults (λ tells. formats_still (of_disk.medium at.disk))
+done_none laws of_disk Audit converters at lawful =
+    audits_none of_disk.told 4 at.taken (of_disk.medium at.disk) (of_disk.medium at.disk) (inr refl)
+    (looks_none lawful) (λ unfailed. refl)
+done_none laws of_disk (Listing f) converters at lawful =
+    lists_none of_disk.told f 4 at.taken (of_disk.medium at.disk) (of_disk.medium at.disk) (inr refl)
+    (looks_none lawful) (λ unfailed. refl)
+done_none laws of_disk (Export app name) converters at lawful =
+    exports_none of_disk.told app name 4 at.taken (of_disk.medium at.disk) (of_disk.medium at.disk) (inr refl)
+    (looks_none lawful) (λ unfailed. refl)
+done_none laws of_disk (Import app name) converters at lawful =
+    imports_cut of_disk.told app name part.OutOfMemory 4 (modelled of_disk at) at.left at.source_failures lawful refl
     (record {
       given = [];
-      taken = record { takes = Consumes-nil left; bound = omega arith; end_seen = not_seen };
+      taken = record { takes = Consumes-nil at.left; bound = omega arith; end_seen = not_seen };
       cut = tt;
     })
-done_none laws told medium (RecoverRoot app) rules answers left before source sink disk lawful =
-    recovers_none told app 4 before (medium disk) (medium disk) (inr refl)
-    (λ tells. recovery_keeps_none app (medium disk) lawful) (omega arith) (λ unfailed. refl)
+done_none laws of_disk (RecoverRoot app) converters at lawful =
+    recovers_none of_disk.told app 4 at.taken (of_disk.medium at.disk) (of_disk.medium at.disk) (inr refl)
+    (λ tells. recovery_keeps_none app (of_disk.medium at.disk) lawful) (omega arith) (λ unfailed. refl)
 
 pub unread_none : {S : Type 0} (o : Option Job) (s : S) → IfSome o (λ job. reads_input job.kind ≡ false → s ≡ s)
 unread_none o s = each_is o (λ job. reads_input job.kind ≡ false → s ≡ s) (λ job reads. refl)
@@ -332,21 +318,14 @@ complete_none o left A B C = each_is o (λ job. job.kind ≡ Run → A → B →
 
 -- ---- a run over good lines
 
-pub completes_if : {D : Type 0} → OneLine → (told : Bool) (medium : D → Medium) (kind : JobKind) (rules : List Rule)
-    (answers : Answers) (status : ℕ)
-    (left left_now before now : Option (List ℕ)) (b n : FailureCounts) (old new : D)
-    → b.disk ≡ (medium old).faults → n.disk ≡ (medium new).faults
-    → JobDone told medium kind rules answers status left left_now before now b n old new → kind ≡ Run
-    → (Rose (medium old).faults (medium new).faults → ⊥) → (Rose b.source n.source → ⊥)
-    → (Rose b.sink n.sink → ⊥) → IfSome left (λ l. IsWellFormed l → (status ≡ 0) ⊎ (status ≡ 4))
-completes_if one told medium kind rules answers status None left_now before now b n old new old_is new_is done is disk
-    source sink = tt
-completes_if one told medium kind rules answers status (Some left) left_now before now b n old new old_is new_is done is
-    disk source sink = λ formed.
-    completes one told rules answers status left left_now before now b.source n.source b.sink n.sink (medium old)
-    (medium new) (subst (λ (k : JobKind). JobDone told medium k rules answers status (Some left) left_now before now b n
-    old new) is done)
-    disk source sink formed
+pub completes_if : {D : Type 0} → OneLine → (of_disk : DiskOf D) (kind : JobKind) (converters : Converters)
+    (status : ℕ) (before after : Edges D) → JobDone of_disk kind converters status before after → kind ≡ Run
+    → (Rose (of_disk.medium before.disk).faults (of_disk.medium after.disk).faults → ⊥)
+    → (Rose before.source_failures after.source_failures → ⊥) → (Rose before.sink_failures after.sink_failures → ⊥)
+    → IfSome before.left (λ l. IsWellFormed l → (status ≡ 0) ⊎ (status ≡ 4))
+completes_if one of_disk kind converters status before after done is disk source sink =
+    completes one of_disk.told converters status (modelled of_disk before) (modelled of_disk after)
+    (subst (λ (k : JobKind). JobDone of_disk k converters status before after) is done) disk source sink
 
 -- ---- numbers are in their ranges
 

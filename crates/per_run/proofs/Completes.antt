@@ -3,14 +3,15 @@ use Rattle.std.proofs.Common.{ℕ, List, [], ◌∷◌, ◌++◌, length, ◌≡
 use Rattle.std.proofs.Common.{subst, arith, Option, Some, None, Bool, true, false, IsTrue, codes, append_assoc}
 use Rattle.std.proofs.Common.{append-nil, length-append, if◌then◌else◌}
 use Rattle.std.specs.List.{AllByRecursion}
+use Rattle.std.specs.Prelude.{IfSome}
 use Rattle.std.specs.Io.KnownBytes.{Consumes, IsAtEnd}
 use Rattle.per_base.specs.Causes.{Rose}
 use Rattle.disk_model.specs.Medium.{Medium}
-use Rattle.migrate_fns.specs.Rules.{Rule, Answers}
 use Rattle.command_text.specs.declared.calls.Event.{Event}
 use Rattle.command_text.specs.declared.lines.Line.{Line}
 use Rattle.command_text.specs.declared.lines.Line.TheVariants as line
 use Rattle.command_text.specs.Grammar.{IsLine}
+use Rattle.run_model.specs.Edges.{Converters, Edges}
 use Rattle.run_model.specs.Endings.{Ending, FailureCounts, HasCauseOf, EndsBy, IsInput, ending_status}
 use Rattle.run_model.specs.Endings as endings
 use Rattle.run_model.specs.Lines.{Give, IsBad, IsWellFormed, all_read, end_last, end_line, last_line, lines_of}
@@ -256,14 +257,16 @@ by_ending one left formed endings.too_long status ended given lines turns before
     absurd (long_never one left formed given front.0 front.1 input.1 lines (events_of turns) gives
     (subst (λ (e : Bool). lines_of e given ≡ lines) input.0 ends.next))
 
-pub completes : OneLine → (told : Bool) (rules : List Rule) (answers : Answers) (status : ℕ) (left : List ℕ)
-    (left_now before now : Option (List ℕ))
-    (source_before source_now sink_before sink_now : ℕ) (old new : Medium)
-    → Run told rules answers status (Some left) left_now before now source_before source_now sink_before sink_now old
-    new → (Rose old.faults new.faults → ⊥)
-    → (Rose source_before source_now → ⊥) → (Rose sink_before sink_now → ⊥) → IsWellFormed left
-    → (status ≡ 0) ⊎ (status ≡ 4)
-completes one told rules answers status left left_now before now source_before source_now sink_before sink_now old new r
-    disk source sink formed =
-    by_ending one left formed r.ending status r.ended r.given r.lines r.turns before now _ _ r.status_is
-    (front_of r.ended r.given left left_now r.taken r.end_seen) r.gives r.ends r.input r.cause disk source sink
+pub completes : OneLine → (told : Bool) (converters : Converters) (status : ℕ) (before after : Edges Medium)
+    → Run told converters status before after → (Rose before.disk.faults after.disk.faults → ⊥)
+    → (Rose before.source_failures after.source_failures → ⊥) → (Rose before.sink_failures after.sink_failures → ⊥)
+    → IfSome before.left (λ l. IsWellFormed l → (status ≡ 0) ⊎ (status ≡ 4))
+completes one told converters status before after r disk source sink = go before.left r.taken
+  where
+    go : (left : Option (List ℕ)) → Consumes left after.left r.given
+        → IfSome left (λ l. IsWellFormed l → (status ≡ 0) ⊎ (status ≡ 4))
+    go None takes = tt
+    go (Some left) takes = λ formed.
+        by_ending one left formed r.ending status r.ended r.given r.lines r.turns before.taken after.taken _ _
+        r.status_is (front_of r.ended r.given left after.left takes r.end_seen) r.gives r.ends r.input r.cause disk
+        source sink

@@ -104,7 +104,8 @@ module _ (told : Bool) (rules : List Rule) (answers : Answers) (start : Medium) 
   pub rests : AppLaws → (ending : endings.Ending) → HasStarted ending
       → (lines all : List (List ℕ)) (turns : List Turn) (later : Option (List ℕ)) (memory : Memory) (now : Medium)
       → Goes told rules answers start turns memory now → IsTrue told
-      → DiskSide rules answers ending lines all turns before later start now
+      → DiskSide (record { rules = rules; answers = answers }) ending
+      (record { lines = lines; all = all; turns = turns; before = before; now = later }) start now
   rests laws ending begun lines all turns later memory now goes tells =
       let g : IsGoing rules answers start turns memory now = goes.disk tells in
       ends_disk laws rules answers ending lines all turns before later memory g.0 start now begun g.2

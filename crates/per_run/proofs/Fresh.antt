@@ -12,17 +12,19 @@ use Rattle.deploy_rows.specs.Laws.{NoManifestsLaw}
 use Rattle.deploy_rows.specs.Rows.{empty_app}
 use Rattle.run_model.specs.Bounds.{AreBounded, bytes_after}
 use Rattle.run_model.specs.Costs.{roots_cost}
+use Rattle.run_model.specs.Edges.{Converters}
 use Rattle.run_model.specs.Endings as endings
 use Rattle.run_model.specs.Endings.{AfterSome, InReply}
 use Rattle.run_model.specs.Moments.{last_of}
 use Rattle.run_model.specs.RunLaws.{ends_settled}
 use Rattle.run_model.specs.Runs as runs
-use Rattle.run_model.specs.Runs.{DiskSide, IsSettled, Progress, between, starting}
+use Rattle.run_model.specs.Runs.{DiskSide, Handling, IsSettled, Progress, Reach, between, starting}
 use Rattle.run_model.specs.Runtimes.{IsNoRoot, Memory}
 use Rattle.run_model.specs.Turns.{AreBlamed, DiskBytes, Follow, Turn, bytes_now, replies_of, worlds_of}
 use Rattle.run_model.specs.Worlds.{Application, Disks, World, after_start, all_resting, formatted, resting, world_at}
 use Rattle.per_run.specs.declared.tally.Tally.{Tally}
-use Rattle.per_run.specs.Jobs.{BeginWith, FailsAtThree, Formats, Generates, IsLeftBy, WritesOutput, summary}
+use Rattle.per_run.specs.Jobs.{BeginWith, FailsAtThree, Formats, Generates, IsLeftBy, WritesOutput, outputs}
+use Rattle.per_run.specs.Jobs.{summary}
 use Rattle.per_run.specs.Serves.{FormatsWithin}
 use Rattle.per_run.specs.Steps.{Counted, IsGoing, IsServeBegun, RunsShort, Tallies}
 use Rattle.per_run.proofs.Courses.{counts_whole}
@@ -111,7 +113,7 @@ formats_later old middle new reads formats = record {
 pub formats_none : (told : Bool) (status : ℕ) (now : Option (List ℕ)) (old new : Medium) → (status ≡ 3) ⊎ (status ≡ 4)
     → (IsTrue told → Spares IsNoRoot old.image new.image) → new.written ≤ old.written + 8 * format_cost
     → FailsAtThree status old.faults new.faults
-    → Formats told status now now old new
+    → Formats told status (outputs now old) (outputs now new)
 formats_none told status now old new is roots cost failed = record {
   output = writes_none status now _ is;
   world = λ tells done. absurd (not_done status is done);
@@ -137,11 +139,11 @@ not_begun (inl three) begun = begun
 not_begun (inr four) begun = begun
 
 -- the formatting or the start did not end
-pub generates_none : (told : Bool) (rules : List Rule) (answers : Answers) (n status : ℕ) (now : Option (List ℕ))
+pub generates_none : (told : Bool) (converters : Converters) (n status : ℕ) (now : Option (List ℕ))
     (old new : Medium) → (status ≡ 3) ⊎ (status ≡ 4) → old.faults ≤ new.faults
     → (IsTrue told → FormatsWithin (bytes_now old) (bytes_now new))
-    → Generates told rules answers n status now now old new
-generates_none told rules answers n status now old new is later formats = record {
+    → Generates told converters n status (outputs now old) (outputs now new)
+generates_none told converters n status now old new is later formats = record {
   ending = stopped_so is;
   status_is = stopped_by is;
   lines = [];
@@ -198,15 +200,11 @@ pub counts_up : {told : Bool} {memory : Memory} {old middle new : Medium} {now :
 counts_up {now = now} begun later = subst (λ (n : ℕ). n ≤ now) (begun.started ∙ begun.passes) later
 
 -- what a run that memory ended left after its commands
-left_by : (rules : List Rule) (answers : Answers) (w : World) (lines all : List (List ℕ)) (turns : List Turn)
-    (reached : List World) (next : Disks) (begun held : DiskBytes)
-    → Progress rules answers endings.memory w lines all turns None None reached next begun held
-    → IsLeftBy rules answers w lines all turns (bytes_after begun turns) held
-left_by rules answers w lines all turns reached next begun held
-    (starting unbegun no_line no_lines none nothing still same) = absurd (unbegun tt)
-left_by rules answers w lines all turns reached next begun held (between begins through still same) = inl same
-left_by rules answers w lines all turns reached next begun held (runs.within begins open_end wrote through it) =
-    inr (next, it)
+left_by : (converters : Converters) (w : World) (handling : Handling) (reach : Reach)
+    → Progress converters endings.memory w handling reach → IsLeftBy converters w handling reach.begun reach.held
+left_by converters w handling reach (starting unbegun no_line no_lines none nothing still same) = absurd (unbegun tt)
+left_by converters w handling reach (between begins through still same) = inl same
+left_by converters w handling reach (runs.within begins open_end wrote through it) = inr (reach.next, it)
 
 -- the lines that it handled are the first
 first_lines : (lines all : List (List ℕ)) (turns : List Turn)
@@ -217,7 +215,8 @@ first_lines lines all turns (inr reply) = (reply.others, reply.next)
 -- memory ran out after the start
 pub generates_short : (told : Bool) (rules : List Rule) (answers : Answers) (n : ℕ) (now : Option (List ℕ))
     (memory : Memory) (old middle begun new : Medium) → IsServeBegun told memory old middle begun
-    → RunsShort told rules answers middle (generated n) new → Generates told rules answers n 4 now now old new
+    → RunsShort told rules answers middle (generated n) new
+    → Generates told (record { rules = rules; answers = answers }) n 4 (outputs now old) (outputs now new)
 generates_short told rules answers n now memory old middle begun new b course = record {
   ending = endings.memory;
   status_is = refl;
@@ -242,18 +241,25 @@ generates_short told rules answers n now memory old middle begun new b course = 
     bounded = subst (λ (w : World). AreBounded rules answers w (side tells).begun course.turns) (here tells)
         (side tells).bounded;
     held = λ done. absurd (not_done 4 (inr refl) done);
-    left = subst (λ (w : World). IsLeftBy rules answers w course.lines (generated n) course.turns
-        (bytes_after (side tells).begun course.turns) (bytes_now new)) (here tells)
-        (left_by rules answers (after_start (world_at middle.image)) course.lines (generated n) course.turns
-        (side tells).reached (side tells).next (side tells).begun (bytes_now new) (side tells).progress);
+    left = subst (λ (w : World). IsLeftBy (record { rules = rules; answers = answers }) w handling (side tells).begun
+        (bytes_now new)) (here tells)
+        (left_by _ (after_start (world_at middle.image)) handling _ (side tells).progress);
   };
   settled = λ tells done. absurd (not_done 4 (inr refl) done);
   unbegun = λ open_end. absurd (open_end tt);
   clean = λ tells started app lt. (side tells).clean app lt (b.clean tells app lt);
 }
   where
-    side : IsTrue told
-        → DiskSide rules answers endings.memory course.lines (generated n) course.turns None None middle new
+    handling : Handling
+    handling = record {
+      lines = course.lines;
+      all = generated n;
+      turns = course.turns;
+      before = None;
+      now = None;
+    }
+
+    side : IsTrue told → DiskSide (record { rules = rules; answers = answers }) endings.memory handling middle new
     side tells = course.disk tells
 
     here : IsTrue told → after_start (world_at middle.image) ≡ formatted
@@ -285,7 +291,7 @@ pub generates_all : {Cause : Type 0} (told : Bool) (rules : List Rule) (answers 
     (generated n) after tally new)
     → WritesOutput status before now (summary (n + 5) (replies_of counted.turns))
     → (status ≡ 0) ⊎ ((status ≡ 4) ⊎ ((status ≡ 6) × Cause))
-    → Generates told rules answers n status before now old new
+    → Generates told (record { rules = rules; answers = answers }) n status (outputs before old) (outputs now new)
 generates_all told rules answers n status before now memory after tally old middle begun new b counted writes
     is = record {
       ending = handled_so is;

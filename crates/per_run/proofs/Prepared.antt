@@ -7,11 +7,13 @@ use Rattle.per_base.specs.Causes.{Rose}
 use Rattle.disk_model.specs.Image.{Image}
 use Rattle.disk_model.specs.Laws.{cases_on, elapses_on, reads_on}
 use Rattle.disk_model.specs.Medium.{Medium, IsLawful, Elapses, OnlyReads}
+use Rattle.disk_model.specs.declared.disk.Disk.{Ghosts as DiskOf}
 use Rattle.migrate_fns.specs.Rules.{Rule, Answers}
 use Rattle.deploy.specs.declared.errors.Stop.{Stop}
 use Rattle.deploy_laws.specs.Apps.{IsCleanApp}
 use Rattle.run_model.specs.AppLaws.{AppLaws}
 use Rattle.run_model.specs.Costs.{roots_cost}
+use Rattle.run_model.specs.Edges.{Converters, Edges, failures_at, modelled}
 use Rattle.run_model.specs.Endings as endings
 use Rattle.run_model.specs.Endings.{HasCauseOf, HasStarted, ending_status}
 use Rattle.run_model.specs.Moments.{Between}
@@ -26,6 +28,7 @@ use Rattle.per_run.specs.Serves.{HasNoBytes, IsPreparedDisk, Serve, Serves, as_i
 use Rattle.per_run.specs.Serves.{unprepared}
 use Rattle.per_run.specs.Serving.{Hearing, IsExactly, IsReadied, IsUnready, Served}
 use Rattle.per_run.specs.Steps.{Blamed, IsServeBegun, ending_of}
+use Rattle.per_run.proofs.Begins.{cause_of, still}
 use Rattle.per_run.proofs.Goes.{goes_none}
 use Rattle.per_run.proofs.Inputs.{not_seen}
 
@@ -154,80 +157,68 @@ hearing_none told rules answers now memory old new time passes starts = record {
 }
 
 -- one that came to its lines
-pub serve_from : (told : Bool) (rules : List Rule) (answers : Answers) (ending : Way)
-    (left_before left_now before now : Option (List ℕ)) (source_before source_now sink_before sink_now : ℕ)
-    (old new : Medium) (status : ℕ) → Elapses old new → status ≡ ending_status (ending_of ending)
-    → (ending ≡ ways.Source → Rose source_before source_now)
-    → Blamed ending sink_before sink_now → Served told rules answers ending old left_before left_now before now new
-    → Serve told rules answers status left_before left_now before now source_before source_now sink_before sink_now old
-    new
-serve_from told rules answers ending left_before left_now before now source_before source_now sink_before sink_now old
-    new status time is source blamed s = record {
-      ending = ending_of ending;
-      status_is = is;
-      given = s.given;
-      taken = s.taken;
-      ended = s.ended;
-      end_seen = s.end_seen;
-      input = s.input;
-      heard = s.course.heard;
-      are = s.course.are;
-      ends = s.course.ends;
-      cause = cause_of ending source blamed.sink;
-      failures = s.course.failures;
-      time = time;
-      disk = s.course.disk;
-    }
-  where
-    cause_of : (e : Way) → (e ≡ ways.Source → Rose source_before source_now)
-        → (e ≡ ways.Sink → Rose sink_before sink_now)
-        → HasCauseOf (ending_of e) (record { disk = old.faults; source = source_before; sink = sink_before })
-        (record { disk = new.faults; source = source_now; sink = sink_now })
-    cause_of ways.AllRead by_source by_sink = tt
-    cause_of ways.EndLine by_source by_sink = tt
-    cause_of ways.BadLine by_source by_sink = tt
-    cause_of ways.OutOfMemory by_source by_sink = tt
-    cause_of ways.Source by_source by_sink = by_source refl
-    cause_of ways.Sink by_source by_sink = by_sink refl
-    cause_of ways.TooLong by_source by_sink = tt
+pub serve_from : (told : Bool) (converters : Converters) (ending : Way) (status : ℕ) (before after : Edges Medium)
+    → Elapses before.disk after.disk → status ≡ ending_status (ending_of ending)
+    → (ending ≡ ways.Source → Rose before.source_failures after.source_failures)
+    → Blamed ending before.sink_failures after.sink_failures
+    → Served told converters.rules converters.answers ending before.disk before.left after.left before.taken after.taken
+    after.disk
+    → Serve told converters status before after
+serve_from told converters ending status before after time is source blamed s = record {
+  ending = ending_of ending;
+  status_is = is;
+  given = s.given;
+  taken = s.taken;
+  ended = s.ended;
+  end_seen = s.end_seen;
+  input = s.input;
+  heard = s.course.heard;
+  are = s.course.are;
+  ends = s.course.ends;
+  cause = cause_of ending (failures_at before) (failures_at after) source blamed.sink;
+  failures = s.course.failures;
+  time = time;
+  disk = s.course.disk;
+}
 
-pub serves_from : {D : Type 0} (told : Bool) (medium : D → Medium) (rules : List Rule) (answers : Answers)
-    (ending : Way) (left_before left_now before now : Option (List ℕ))
-    (source_before source_now sink_before sink_now : ℕ) (old middle new : D) (memory : Memory) (status : ℕ)
-    → (r : IsReadied told medium memory old middle) → Elapses (medium middle) (medium new)
-    → status ≡ ending_status (ending_of ending)
-    → (ending ≡ ways.Source → Rose source_before source_now) → Blamed ending sink_before sink_now
-    → Served told rules answers ending (medium r.start) left_before left_now before now (medium new)
-    → Serves told medium rules answers status left_before left_now before now source_before source_now sink_before
-    sink_now old new
-serves_from told medium rules answers ending left_before left_now before now source_before source_now sink_before
-    sink_now old middle new memory status r time is source blamed s =
-    served r.start r.prepared (serve_from told rules answers ending left_before left_now before now source_before
-    source_now sink_before sink_now (medium r.start) (medium new) status (elapses_on r.time time) is source blamed s)
+pub serves_from : {D : Type 0} (of_disk : DiskOf D) (converters : Converters) (ending : Way) (status : ℕ)
+    (before after : Edges D) (middle : D) (memory : Memory)
+    → (r : IsReadied of_disk.told of_disk.medium memory before.disk middle)
+    → Elapses (of_disk.medium middle) (of_disk.medium after.disk) → status ≡ ending_status (ending_of ending)
+    → (ending ≡ ways.Source → Rose before.source_failures after.source_failures)
+    → Blamed ending before.sink_failures after.sink_failures
+    → Served of_disk.told converters.rules converters.answers ending (of_disk.medium r.start) before.left after.left
+    before.taken after.taken (of_disk.medium after.disk)
+    → Serves of_disk converters status before after
+serves_from of_disk converters ending status before after middle memory r time is source blamed s =
+    served r.start r.prepared (serve_from of_disk.told converters ending status
+    (modelled of_disk (record before { disk = r.start })) (modelled of_disk after) (elapses_on r.time time) is source
+    blamed s)
 
 -- one that did not
-serve_none : AppLaws → (told : Bool) (rules : List Rule) (answers : Answers) (ending : endings.Ending) (status : ℕ)
-    (left before : Option (List ℕ)) (source sink : ℕ) (old new : Medium) → ¬ (HasStarted ending)
+serve_none : AppLaws → (told : Bool) (converters : Converters) (ending : endings.Ending) (status : ℕ)
+    (left taken : Option (List ℕ)) (source_failures sink_failures : ℕ) (old new : Medium) → ¬ (HasStarted ending)
     → IsLawful told new → Elapses old new → (IsTrue told → StartKeeps old new) → status ≡ ending_status ending
-    → HasCauseOf ending (record { disk = old.faults; source = source; sink = sink })
-    (record { disk = new.faults; source = source; sink = sink })
-    → Serve told rules answers status left left before before source source sink sink old new
-serve_none laws told rules answers endings.all_read status left before source sink old new open_end lawful time keeps is
-    cause = absurd (open_end tt)
-serve_none laws told rules answers endings.end_line status left before source sink old new open_end lawful time keeps is
-    cause = absurd (open_end tt)
-serve_none laws told rules answers endings.bad_line status left before source sink old new open_end lawful time keeps is
-    cause = absurd (open_end tt)
-serve_none laws told rules answers endings.memory status left before source sink old new open_end lawful time keeps is
-    cause = absurd (open_end tt)
-serve_none laws told rules answers endings.source status left before source sink old new open_end lawful time keeps is
-    cause = absurd (open_end tt)
-serve_none laws told rules answers endings.sink status left before source sink old new open_end lawful time keeps is
-    cause = absurd (open_end tt)
-serve_none laws told rules answers endings.too_long status left before source sink old new open_end lawful time keeps is
-    cause = absurd (open_end tt)
-serve_none laws told rules answers endings.device status left before source sink old new open_end lawful time keeps is
-    cause = record {
+    → HasCauseOf ending (failures_at (still left taken source_failures sink_failures old))
+    (failures_at (still left taken source_failures sink_failures new))
+    → Serve told converters status (still left taken source_failures sink_failures old)
+    (still left taken source_failures sink_failures new)
+serve_none laws told converters endings.all_read status left taken source_failures sink_failures old new open_end lawful
+    time keeps is cause = absurd (open_end tt)
+serve_none laws told converters endings.end_line status left taken source_failures sink_failures old new open_end lawful
+    time keeps is cause = absurd (open_end tt)
+serve_none laws told converters endings.bad_line status left taken source_failures sink_failures old new open_end lawful
+    time keeps is cause = absurd (open_end tt)
+serve_none laws told converters endings.memory status left taken source_failures sink_failures old new open_end lawful
+    time keeps is cause = absurd (open_end tt)
+serve_none laws told converters endings.source status left taken source_failures sink_failures old new open_end lawful
+    time keeps is cause = absurd (open_end tt)
+serve_none laws told converters endings.sink status left taken source_failures sink_failures old new open_end lawful
+    time keeps is cause = absurd (open_end tt)
+serve_none laws told converters endings.too_long status left taken source_failures sink_failures old new open_end lawful
+    time keeps is cause = absurd (open_end tt)
+serve_none laws told converters endings.device status left taken source_failures sink_failures old new open_end lawful
+    time keeps is cause = record {
       ending = endings.device;
       status_is = is;
       given = [];
@@ -237,15 +228,15 @@ serve_none laws told rules answers endings.device status left before source sink
       input = (refl, refl);
       heard = [];
       are = tt;
-      ends = record { no_line = refl; wrote = Appends-nil before };
+      ends = record { no_line = refl; wrote = Appends-nil taken };
       cause = cause;
       failures = record { last = old.faults; blamed = refl; later = time.faults; passes = λ over. absurd over };
       time = time;
-      disk = λ tells. start_disk laws rules answers endings.device None None told old new lawful time (λ begun. begun)
-          (keeps tells);
+      disk = λ tells. start_disk laws converters.rules converters.answers endings.device None None told old new lawful time
+          (λ begun. begun) (keeps tells);
     }
-serve_none laws told rules answers endings.start_memory status left before source sink old new open_end lawful time
-    keeps is cause = record {
+serve_none laws told converters endings.start_memory status left taken source_failures sink_failures old new open_end lawful
+    time keeps is cause = record {
       ending = endings.start_memory;
       status_is = is;
       given = [];
@@ -255,33 +246,35 @@ serve_none laws told rules answers endings.start_memory status left before sourc
       input = (refl, refl);
       heard = [];
       are = tt;
-      ends = record { no_line = refl; wrote = Appends-nil before };
+      ends = record { no_line = refl; wrote = Appends-nil taken };
       cause = cause;
       failures = record { last = old.faults; blamed = refl; later = time.faults; passes = λ over. absurd over };
       time = time;
-      disk = λ tells. start_disk laws rules answers endings.start_memory None None told old new lawful time
+      disk = λ tells. start_disk laws converters.rules converters.answers endings.start_memory None None told old new lawful time
           (λ begun. begun) (keeps tells);
     }
 
-pub serves_none : {D : Type 0} → AppLaws → (told : Bool) (medium : D → Medium) (rules : List Rule) (answers : Answers)
-    (left before : Option (List ℕ)) (source sink : ℕ) (old new : D) → IsLawful told (medium new)
-    → Elapses (medium old) (medium new) → IsUnready told medium old new
-    → Rose (medium old).faults (medium new).faults
-    → Serves told medium rules answers 3 left left before before source source sink sink old new
-serves_none laws told medium rules answers left before source sink old new lawful time (inl keeps) rose =
+pub serves_none : {D : Type 0} → AppLaws → (of_disk : DiskOf D) (converters : Converters) (left taken : Option (List ℕ))
+    (source_failures sink_failures : ℕ) (old new : D) → IsLawful of_disk.told (of_disk.medium new)
+    → Elapses (of_disk.medium old) (of_disk.medium new) → IsUnready of_disk.told of_disk.medium old new
+    → Rose (of_disk.medium old).faults (of_disk.medium new).faults
+    → Serves of_disk converters 3 (still left taken source_failures sink_failures old)
+    (still left taken source_failures sink_failures new)
+serves_none laws of_disk converters left taken source_failures sink_failures old new lawful time (inl keeps) rose =
     served old (as_it_was keeps.0 refl)
-    (serve_none laws told rules answers endings.device 3 left before source sink (medium old) (medium new)
-    (λ begun. begun) lawful time keeps.1 refl rose)
-serves_none laws told medium rules answers left before source sink old new lawful time (inr nothing) rose =
-    unprepared nothing (inl (refl, rose)) (Keeps-refl left) (Keeps-refl before)
+    (serve_none laws of_disk.told converters endings.device 3 left taken source_failures sink_failures
+    (of_disk.medium old) (of_disk.medium new) (λ begun. begun) lawful time keeps.1 refl rose)
+serves_none laws of_disk converters left taken source_failures sink_failures old new lawful time (inr nothing) rose =
+    unprepared nothing (inl (refl, rose)) (Keeps-refl left) (Keeps-refl taken)
 
-pub serves_short : {D : Type 0} → AppLaws → (told : Bool) (medium : D → Medium) (rules : List Rule) (answers : Answers)
-    (left before : Option (List ℕ)) (source sink : ℕ) (old new : D) → IsLawful told (medium new)
-    → Elapses (medium old) (medium new) → IsUnready told medium old new
-    → Serves told medium rules answers 4 left left before before source source sink sink old new
-serves_short laws told medium rules answers left before source sink old new lawful time (inl keeps) =
+pub serves_short : {D : Type 0} → AppLaws → (of_disk : DiskOf D) (converters : Converters) (left taken : Option (List ℕ))
+    (source_failures sink_failures : ℕ) (old new : D) → IsLawful of_disk.told (of_disk.medium new)
+    → Elapses (of_disk.medium old) (of_disk.medium new) → IsUnready of_disk.told of_disk.medium old new
+    → Serves of_disk converters 4 (still left taken source_failures sink_failures old)
+    (still left taken source_failures sink_failures new)
+serves_short laws of_disk converters left taken source_failures sink_failures old new lawful time (inl keeps) =
     served old (as_it_was keeps.0 refl)
-    (serve_none laws told rules answers endings.start_memory 4 left before source sink (medium old) (medium new)
-    (λ begun. begun) lawful time keeps.1 refl tt)
-serves_short laws told medium rules answers left before source sink old new lawful time (inr nothing) =
-    unprepared nothing (inr refl) (Keeps-refl left) (Keeps-refl before)
+    (serve_none laws of_disk.told converters endings.start_memory 4 left taken source_failures sink_failures
+    (of_disk.medium old) (of_disk.medium new) (λ begun. begun) lawful time keeps.1 refl tt)
+serves_short laws of_disk converters left taken source_failures sink_failures old new lawful time (inr nothing) =
+    unprepared nothing (inr refl) (Keeps-refl left) (Keeps-refl taken)

@@ -10,7 +10,7 @@ run_over-requires g c = job_within _ c.in-Ok.job c.in-Ok.ensures.job
 pub returns-in-Ok-clause-complete : goal.returns-in-Ok-clause-complete
 returns-in-Ok-clause-complete g c = ran_then c.run_over.result
     (λ status disk ran. some_is _ c.in-Ok.job _ c.in-Ok.ensures.job (λ is calm source sink.
-    flash_completes c.one_line.ensures _ _ c.in-Ok.job.kind _ _ status _ _ _ _ _ _ _ _ _ disk ran is calm source sink))
+    flash_completes c.one_line.ensures _ c.in-Ok.job.kind _ status _ _ ran is calm source sink))
     c.run_over.ensures.ran
 
 pub returns-in-Ok-clause-unopened : goal.returns-in-Ok-clause-unopened

@@ -15,7 +15,7 @@ pub returns-in-Ok-clause-time : goal.returns-in-Ok-clause-time
 returns-in-Ok-clause-time g c = elapses_on c.start_formatted.ensures.time c.generate_on.ensures.time
 
 pub returns-in-Err-Device-clause-job : goal.returns-in-Err-Device-clause-job
-returns-in-Err-Device-clause-job g c = generates_none _ _ _ _ _ _ _ _ (inl refl) c.start_formatted.ensures.time.faults
+returns-in-Err-Device-clause-job g c = generates_none _ _ _ _ _ _ _ (inl refl) c.start_formatted.ensures.time.faults
     c.start_formatted.ensures.within
 
 pub returns-in-Err-Device-clause-status : goal.returns-in-Err-Device-clause-status
@@ -23,7 +23,7 @@ returns-in-Err-Device-clause-status g c = inr (inr (inl
     (refl, c.start_formatted.ensures.cause (c.in-Err-Device.is ∙ ap Err c.in-Err-Device.field-0-is))))
 
 pub returns-in-Err-OutOfMemory-clause-job : goal.returns-in-Err-OutOfMemory-clause-job
-returns-in-Err-OutOfMemory-clause-job g c = generates_none _ _ _ _ _ _ _ _ (inr refl)
+returns-in-Err-OutOfMemory-clause-job g c = generates_none _ _ _ _ _ _ _ (inr refl)
     c.start_formatted.ensures.time.faults c.start_formatted.ensures.within
 
 pub returns-in-Err-OutOfMemory-clause-status : goal.returns-in-Err-OutOfMemory-clause-status

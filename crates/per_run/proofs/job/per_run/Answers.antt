@@ -30,7 +30,7 @@ returns-in-Ok-clause-unread g c = some_is _ c.in-Ok.job _ c.in-Ok.ensures.job c.
 
 pub returns-in-Ok-clause-complete : goal.returns-in-Ok-clause-complete
 returns-in-Ok-clause-complete g c = some_is _ c.in-Ok.job _ c.in-Ok.ensures.job (λ is disk source sink.
-    completes_if c.one_line.ensures _ g.D.Disk.medium c.in-Ok.job.kind _ _ _ _ _ _ _ _ _ _ _ refl refl
+    completes_if c.one_line.ensures g.D.Disk c.in-Ok.job.kind _ _ _ _
     c.run_job.ensures.job is disk source sink)
 
 -- ---- the words say none
@@ -55,7 +55,7 @@ returns-in-Err-Refused-clause-complete g c = none_is _ _
 
 pub returns-in-Err-OutOfMemory-clause-job : goal.returns-in-Err-OutOfMemory-clause-job
 returns-in-Err-OutOfMemory-clause-job g c = each_is {A = Job} _ _
-    (λ job. done_none c.applications_stand.ensures _ g.D.Disk.medium job.kind _ _ _ _ _ _ _ (g.met.D.Disk.lawful _))
+    (λ job. done_none c.applications_stand.ensures g.D.Disk job.kind _ _ (g.met.D.Disk.lawful _))
 
 pub returns-in-Err-OutOfMemory-clause-caused : goal.returns-in-Err-OutOfMemory-clause-caused
 returns-in-Err-OutOfMemory-clause-caused g c = each_is {A = Job} _ _ (λ job. short_caused job.kind _ _)

@@ -7,7 +7,7 @@ use Rattle.per_run.proofs.serving.serve.Goals as goal
 pub returns-in-Ok-clause-serves : goal.returns-in-Ok-clause-serves
 returns-in-Ok-clause-serves g c =
     let r = c.in-Ok.ensures.readied in
-    serves_from _ g.D.Disk.medium _ _ c.serve_input.result _ _ _ _ _ _ _ _ _ _ _ _ _ r c.serve_input.ensures.time
+    serves_from g.D.Disk _ c.serve_input.result _ _ _ _ _ r c.serve_input.ensures.time
     c.status.ensures c.serve_input.ensures.source_failed c.serve_input.ensures.blamed
     (c.serve_input.ensures.served c.applications_stand.ensures r.start
     (hearing_none _ _ _ _ _ _ _ r.time r.passes r.starts))
@@ -16,10 +16,10 @@ pub returns-in-Ok-clause-time : goal.returns-in-Ok-clause-time
 returns-in-Ok-clause-time g c = elapses_on c.prepare.ensures.time c.serve_input.ensures.time
 
 pub returns-in-Err-Device-clause-serves : goal.returns-in-Err-Device-clause-serves
-returns-in-Err-Device-clause-serves g c = serves_none c.applications_stand.ensures _ g.D.Disk.medium _ _ _ _ _ _ _ _
+returns-in-Err-Device-clause-serves g c = serves_none c.applications_stand.ensures g.D.Disk _ _ _ _ _ _ _
     (g.met.D.Disk.lawful _) c.prepare.ensures.time c.in-Err-Device.ensures.unready
     (c.prepare.ensures.cause (c.in-Err-Device.is ∙ ap Err c.in-Err-Device.field-0-is))
 
 pub returns-in-Err-OutOfMemory-clause-serves : goal.returns-in-Err-OutOfMemory-clause-serves
-returns-in-Err-OutOfMemory-clause-serves g c = serves_short c.applications_stand.ensures _ g.D.Disk.medium _ _ _ _ _ _
-    _ _ (g.met.D.Disk.lawful _) c.prepare.ensures.time c.in-Err-OutOfMemory.ensures.unready
+returns-in-Err-OutOfMemory-clause-serves g c = serves_short c.applications_stand.ensures g.D.Disk _ _ _ _ _ _
+    _ (g.met.D.Disk.lawful _) c.prepare.ensures.time c.in-Err-OutOfMemory.ensures.unready
