@@ -228,7 +228,8 @@ makes_none told app name text status now old new is keeps written failed = recor
 }
 
 -- the input was not read whole
-pub uncalled : {told : Bool} {m : Medium} (now : Option (List ℕ)) → IsLawful told m → IsUncalled (outputs now m) (outputs now m)
+pub uncalled : {told : Bool} {m : Medium} (now : Option (List ℕ)) → IsLawful told m
+    → IsUncalled (outputs now m) (outputs now m)
 uncalled now lawful = record {
   output = Keeps-refl now;
   stays = looks_none lawful;

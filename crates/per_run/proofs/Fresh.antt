@@ -18,7 +18,7 @@ use Rattle.run_model.specs.Endings.{AfterSome, InReply}
 use Rattle.run_model.specs.Moments.{last_of}
 use Rattle.run_model.specs.RunLaws.{ends_settled}
 use Rattle.run_model.specs.Runs as runs
-use Rattle.run_model.specs.Runs.{DiskSide, Handling, IsSettled, Progress, Reach, between, starting}
+use Rattle.run_model.specs.Runs.{DiskSide, Handling, IsSettled, Progress, Reach, between, starting, without_sink}
 use Rattle.run_model.specs.Runtimes.{IsNoRoot, Memory}
 use Rattle.run_model.specs.Turns.{AreBlamed, DiskBytes, Follow, Turn, bytes_now, replies_of, worlds_of}
 use Rattle.run_model.specs.Worlds.{Application, Disks, World, after_start, all_resting, formatted, resting, world_at}
@@ -241,25 +241,17 @@ generates_short told rules answers n now memory old middle begun new b course = 
     bounded = subst (λ (w : World). AreBounded rules answers w (side tells).begun course.turns) (here tells)
         (side tells).bounded;
     held = λ done. absurd (not_done 4 (inr refl) done);
-    left = subst (λ (w : World). IsLeftBy (record { rules = rules; answers = answers }) w handling (side tells).begun
-        (bytes_now new)) (here tells)
-        (left_by _ (after_start (world_at middle.image)) handling _ (side tells).progress);
+    left = subst (λ (w : World). IsLeftBy (record { rules = rules; answers = answers }) w
+        (without_sink course.lines (generated n) course.turns) (side tells).begun (bytes_now new)) (here tells)
+        (left_by _ (after_start (world_at middle.image)) _ _ (side tells).progress);
   };
   settled = λ tells done. absurd (not_done 4 (inr refl) done);
   unbegun = λ open_end. absurd (open_end tt);
   clean = λ tells started app lt. (side tells).clean app lt (b.clean tells app lt);
 }
   where
-    handling : Handling
-    handling = record {
-      lines = course.lines;
-      all = generated n;
-      turns = course.turns;
-      before = None;
-      now = None;
-    }
-
-    side : IsTrue told → DiskSide (record { rules = rules; answers = answers }) endings.memory handling middle new
+    side : IsTrue told → DiskSide (record { rules = rules; answers = answers }) endings.memory
+        (without_sink course.lines (generated n) course.turns) middle new
     side tells = course.disk tells
 
     here : IsTrue told → after_start (world_at middle.image) ≡ formatted

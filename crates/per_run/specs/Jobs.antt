@@ -26,7 +26,7 @@ use Rattle.run_model.specs.Lines.{Give}
 use Rattle.run_model.specs.Lives.{LooksOnly}
 use Rattle.run_model.specs.Moments.{AreSoundDoubts, last_of}
 use Rattle.run_model.specs.Runs as runs
-use Rattle.run_model.specs.Runs.{Handling, IsInProgress, IsSettled, IsSoundEnd}
+use Rattle.run_model.specs.Runs.{Handling, IsInProgress, IsSettled, IsSoundEnd, without_sink}
 use Rattle.run_model.specs.Runtimes.{IsNoRoot}
 use Rattle.run_model.specs.Turns.{DiskBytes, Turn, bytes_now, events_of, replies_of, worlds_of, CountsFailures, Follow}
 use Rattle.run_model.specs.Worlds.{Disks, World, formatted, world_at}
@@ -175,10 +175,8 @@ pub record Generates (told : Bool) (converters : Converters) (n status : ℕ) (b
   pub output : WritesOutput status before.taken after.taken (summary (length (generated n)) (replies_of turns))
   pub failures : CountsFailures (CameToOutput status) before.disk.faults turns after.disk.faults
   pub follow : IsTrue told → Follow converters.rules converters.answers formatted turns
-  -- of the sink is said only what the job writes at its end
-  pub bounded : IsTrue told → IsGeneratedWithin converters
-      (record { lines = lines; all = generated n; turns = turns; before = None; now = None }) (CameToOutput status)
-      before.disk after.disk
+  pub bounded : IsTrue told → IsGeneratedWithin converters (without_sink lines (generated n) turns)
+      (CameToOutput status) before.disk after.disk
   pub settled : IsTrue told → CameToOutput status → IsSettled (last_of formatted (worlds_of turns)) after.disk
   -- where the start did not end no line was handled, and no more was done than the formatting and the start
   pub unbegun : ¬ (HasStarted ending)

@@ -12,12 +12,13 @@ use Rattle.run_model.specs.Edges.{Edges}
 use Rattle.run_model.specs.Lines.{lines_of}
 use Rattle.run_model.specs.Lives.{Job, imports, imports_beside, looks, runs}
 use Rattle.run_model.specs.Moments.{AreSoundDoubts, OrBefore}
+use Rattle.run_model.specs.Runs.{without_sink}
 use Rattle.run_model.specs.Starting.{which}
 use Rattle.per_backup.specs.Backups.{importing_into}
 use Rattle.per_backup.specs.Clauses.{ImportKeeps}
 use Rattle.per_list.specs.declared.forms.Form.{Form}
 use Rattle.per_run.specs.Jobs.{Audits, Exports, Imports, Lists, Outputs}
-use Rattle.per_run.specs.Serves.{Serve, handling_of}
+use Rattle.per_run.specs.Serves.{Serve, lines_in, turns_in}
 
 module _ (rules : List Rule) (answers : Answers) (app : ℕ) (told : Bool) (status : ℕ) where
   pub of_audit : (before after : Outputs) → Audits told status before after
@@ -55,7 +56,7 @@ module _ (rules : List Rule) (answers : Answers) (app : ℕ) (told : Bool) (stat
       → AreSoundDoubts app (serve.disk tells).reached → Job rules answers app before.disk after.disk
   of_serve before after tells serve sound = runs (record {
     ending = serve.ending;
-    handling = handling_of serve.heard (lines_of false serve.given);
+    handling = without_sink (lines_in serve.heard) (lines_of false serve.given) (turns_in serve.heard);
     disk = serve.disk tells;
     sound = sound;
   })

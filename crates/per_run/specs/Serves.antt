@@ -20,7 +20,7 @@ use Rattle.run_model.specs.Endings as endings
 use Rattle.run_model.specs.Endings.{Ending, HasCauseOf, HasEnded, bad_line_text, ending_status}
 use Rattle.run_model.specs.Lines.{IsBad, lines_of}
 use Rattle.run_model.specs.Moments.{last_of}
-use Rattle.run_model.specs.Runs.{DiskSide, Handling, IsSettled}
+use Rattle.run_model.specs.Runs.{DiskSide, IsSettled, without_sink}
 use Rattle.run_model.specs.Runtimes.{IsNoRoot}
 use Rattle.run_model.specs.Turns.{DiskBytes, Turn, CountsFailures, bytes_now, worlds_of}
 use Rattle.run_model.specs.Worlds.{after_start, formatted, world_at}
@@ -142,16 +142,6 @@ IsServedInput other ended count = ⊤
 
 -- ---- a run that stays, from its start on
 
--- the handling of these lines, of the lines `all`, where nothing is said of the sink
-abbrev pub handling_of : List Heard → (all : List (List ℕ)) → Handling
-handling_of heard all = record {
-  lines = lines_in heard;
-  all = all;
-  turns = turns_in heard;
-  before = None;
-  now = None;
-}
-
 -- A last line without its line feed is none of the lines. Of the disk is promised what a run promises, but with None
 -- for what was written, as for a sink that models nothing: here `ends` says that.
 pub record Serve (told : Bool) (converters : Converters) (status : ℕ) (before after : Edges Medium) : Type 0 where
@@ -170,8 +160,8 @@ pub record Serve (told : Bool) (converters : Converters) (status : ℕ) (before 
   pub cause : HasCauseOf ending (failures_at before) (failures_at after)
   pub failures : CountsFailures (HasEnded ending) before.disk.faults (turns_in heard) after.disk.faults
   pub time : Elapses before.disk after.disk
-  pub disk : IsTrue told
-      → DiskSide converters ending (handling_of heard (lines_of false given)) before.disk after.disk
+  pub disk : IsTrue told → DiskSide converters ending
+      (without_sink (lines_in heard) (lines_of false given) (turns_in heard)) before.disk after.disk
 
 -- ---- the disk that it starts on
 

@@ -8,13 +8,13 @@ use Rattle.migrate_fns.specs.Rules.{Rule, Answers}
 use Rattle.run_model.specs.Endings as endings
 use Rattle.run_model.specs.Lines.{lines_of}
 use Rattle.run_model.specs.Moments.{last_of}
-use Rattle.run_model.specs.Runs.{DiskSide, IsSettled}
+use Rattle.run_model.specs.Runs.{DiskSide, IsSettled, without_sink}
 use Rattle.run_model.specs.Runtimes.{Memory, StartKeeps, Starts}
 use Rattle.run_model.specs.Turns.{CountsFailures, worlds_of}
 use Rattle.run_model.specs.Worlds.{after_start, world_at}
 use Rattle.per_run.specs.declared.endings.Ending.{Ending}
 use Rattle.per_run.specs.Serves.{HadNothing, HasNoBytes, Heard, IsHeard, IsPreparedDisk, IsServedInput, ServesBy}
-use Rattle.per_run.specs.Serves.{handling_of, heard_line, heard_texts, lines_in, turns_in}
+use Rattle.per_run.specs.Serves.{heard_line, heard_texts, lines_in, turns_in}
 use Rattle.per_run.specs.Steps.{Goes, HasNoFeed, ending_of, with_feed}
 
 -- ---- the start
@@ -61,8 +61,8 @@ pub record Service (told : Bool) (rules : List Rule) (answers : Answers) (ending
       → IsSettled (last_of (after_start (world_at start.image)) (worlds_of (turns_in heard))) medium)
       ending heard all before now
   pub failures : CountsFailures (endings.HasEnded ending) start.faults (turns_in heard) medium.faults
-  pub disk : IsTrue told → DiskSide (record { rules = rules; answers = answers }) ending (handling_of heard all) start
-      medium
+  pub disk : IsTrue told → DiskSide (record { rules = rules; answers = answers }) ending
+      (without_sink (lines_in heard) all (turns_in heard)) start medium
 
 -- ---- bytes
 

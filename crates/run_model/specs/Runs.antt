@@ -68,6 +68,10 @@ pub record Handling : Type 0 where
   pub before : Option (List ℕ)
   pub now : Option (List ℕ)
 
+-- the same where nothing is said of the sink
+abbrev pub without_sink : (lines all : List (List ℕ)) → List Turn → Handling
+without_sink lines all turns = record { lines = lines; all = all; turns = turns; before = None; now = None }
+
 -- how far a run came: the worlds, what was in progress, and the disk's bytes after the start and at the end
 pub record Reach : Type 0 where
   pub worlds : List World
