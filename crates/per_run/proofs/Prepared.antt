@@ -207,16 +207,16 @@ serve_none laws told converters endings.all_read status left taken source_failur
     time keeps is cause = absurd (open_end tt)
 serve_none laws told converters endings.end_line status left taken source_failures sink_failures old new open_end lawful
     time keeps is cause = absurd (open_end tt)
-serve_none laws told converters endings.bad_line status left taken source_failures sink_failures old new open_end lawful
-    time keeps is cause = absurd (open_end tt)
+serve_none laws told converters endings.bad_line status left taken source_failures sink_failures old new open_end
+    lawful time keeps is cause = absurd (open_end tt)
 serve_none laws told converters endings.memory status left taken source_failures sink_failures old new open_end lawful
     time keeps is cause = absurd (open_end tt)
 serve_none laws told converters endings.source status left taken source_failures sink_failures old new open_end lawful
     time keeps is cause = absurd (open_end tt)
 serve_none laws told converters endings.sink status left taken source_failures sink_failures old new open_end lawful
     time keeps is cause = absurd (open_end tt)
-serve_none laws told converters endings.too_long status left taken source_failures sink_failures old new open_end lawful
-    time keeps is cause = absurd (open_end tt)
+serve_none laws told converters endings.too_long status left taken source_failures sink_failures old new open_end
+    lawful time keeps is cause = absurd (open_end tt)
 serve_none laws told converters endings.device status left taken source_failures sink_failures old new open_end lawful
     time keeps is cause = record {
       ending = endings.device;
@@ -232,11 +232,11 @@ serve_none laws told converters endings.device status left taken source_failures
       cause = cause;
       failures = record { last = old.faults; blamed = refl; later = time.faults; passes = λ over. absurd over };
       time = time;
-      disk = λ tells. start_disk laws converters.rules converters.answers endings.device None None told old new lawful time
-          (λ begun. begun) (keeps tells);
+      disk = λ tells. start_disk laws converters.rules converters.answers endings.device None None told old new lawful
+          time (λ begun. begun) (keeps tells);
     }
-serve_none laws told converters endings.start_memory status left taken source_failures sink_failures old new open_end lawful
-    time keeps is cause = record {
+serve_none laws told converters endings.start_memory status left taken source_failures sink_failures old new open_end
+    lawful time keeps is cause = record {
       ending = endings.start_memory;
       status_is = is;
       given = [];
@@ -250,8 +250,8 @@ serve_none laws told converters endings.start_memory status left taken source_fa
       cause = cause;
       failures = record { last = old.faults; blamed = refl; later = time.faults; passes = λ over. absurd over };
       time = time;
-      disk = λ tells. start_disk laws converters.rules converters.answers endings.start_memory None None told old new lawful time
-          (λ begun. begun) (keeps tells);
+      disk = λ tells. start_disk laws converters.rules converters.answers endings.start_memory None None told old new
+          lawful time (λ begun. begun) (keeps tells);
     }
 
 pub serves_none : {D : Type 0} → AppLaws → (of_disk : DiskOf D) (converters : Converters) (left taken : Option (List ℕ))
