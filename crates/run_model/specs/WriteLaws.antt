@@ -37,7 +37,7 @@ raised : (before before' after cost : ℕ) → before ≤ before' → after ≤ 
 raised before before' after cost more le = omega (arith, more, le)
 
 -- the same bytes
-unchanged : (old new : DiskBytes) → new.image ≡ old.image → new.written ≡ old.written → new ≡ old
+pub unchanged : (old new : DiskBytes) → new.image ≡ old.image → new.written ≡ old.written → new ≡ old
 unchanged old new image written = ap₂ (λ (i : Image) (n : ℕ). record { image = i; written = n }) image written
 
 no_more : (old new : DiskBytes) → new ≡ old → new.written ≤ old.written
