@@ -50,6 +50,7 @@ unbegun told m lawful = record {
   at_exit = inl (reads_none lawful);
   roots = λ f is. refl;
   written = omega arith;
+  already = λ are. refl;
 }
 
 -- a run that did not come to its lines
@@ -80,8 +81,8 @@ run_none laws told rules answers left before source sink old new status lawful t
 pub run_short : AppLaws → (told : Bool) (rules : List Rule) (answers : Answers) (left before : Option (List ℕ))
     (source sink : ℕ) (old new : Medium) (status : ℕ)
     → IsLawful told new → Elapses old new → (IsTrue told → StartKeeps old new) → status ≡ 4
-    → Run told rules answers status left left before before source source sink sink old new
-run_short laws told rules answers left before source sink old new status lawful time keeps is = record {
+    → new.faults ≡ old.faults → Run told rules answers status left left before before source source sink sink old new
+run_short laws told rules answers left before source sink old new status lawful time keeps is fed = record {
   ending = endings.start_memory;
   status_is = is;
   given = [];
@@ -94,7 +95,7 @@ run_short laws told rules answers left before source sink old new status lawful 
   turns = [];
   gives = refl;
   ends = record { no_line = refl; no_turn = refl; wrote = Appends-nil before };
-  cause = tt;
+  cause = fed;
   failures = record { last = old.faults; blamed = refl; later = time.faults; passes = λ over. absurd over };
   time = time;
   disk = λ tells. start_disk laws rules answers endings.start_memory before before told old new lawful time

@@ -120,7 +120,7 @@ serve_caused told medium rules answers status left_before left_now before now so
     sink_now old new (unprepared nothing (inl failed) left_same same) = by_disk failed.0 failed.1
 serve_caused told medium rules answers status left_before left_now before now source_before source_now sink_before
     sink_now old new (unprepared nothing (inr four) left_same same) =
-    by_itself (among status 4 (statuses_of Serve) four (1, omega arith, refl))
+    by_itself (among status 4 (statuses_of Serve) four.0 (1, omega arith, refl))
 
 -- a job that writes once
 pub written_caused : (kind : JobKind) (status : ℕ) (b n : FailureCounts) → statuses_of kind ≡ 0 ∷ 4 ∷ []
@@ -291,16 +291,16 @@ pub done_none : {D : Type 0} → AppLaws → (told : Bool) (medium : D → Mediu
     (record { disk = (medium disk).faults; source = source; sink = sink }) disk disk
 done_none laws told medium Run rules answers left before source sink disk lawful =
     run_short laws told rules answers left before source sink (medium disk) (medium disk) 4 lawful (elapses_none lawful)
-    (λ tells. unbegun told (medium disk) lawful) refl
+    (λ tells. unbegun told (medium disk) lawful) refl refl
 done_none laws told medium Serve rules answers left before source sink disk lawful =
     serves_short laws told medium rules answers left before source sink disk disk lawful (elapses_none lawful)
-    (inr (inr (reads_none lawful)))
+    (inr (inr (reads_none lawful))) refl
 done_none laws told medium Format rules answers left before source sink disk lawful =
     formats_none told 4 before (medium disk) (medium disk) (inr refl) (λ tells file is. refl) (omega arith)
     (λ unfailed. refl)
 done_none laws told medium (Generate n) rules answers left before source sink disk lawful =
     generates_none told rules answers n 4 before (medium disk) (medium disk) (inr refl) (elapses_none lawful).faults
-    (λ tells. formats_still (medium disk))
+    (λ unfailed. refl) (λ tells. formats_still (medium disk))
 done_none laws told medium Audit rules answers left before source sink disk lawful =
     audits_none told 4 before (medium disk) (medium disk) (inr refl) (looks_none lawful) (λ unfailed. refl)
 done_none laws told medium (Listing f) rules answers left before source sink disk lawful =

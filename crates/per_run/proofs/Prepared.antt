@@ -17,7 +17,10 @@ use Rattle.run_model.specs.Endings.{HasCauseOf, HasStarted, ending_status}
 use Rattle.run_model.specs.Moments.{Between}
 use Rattle.run_model.specs.RunLaws.{start_disk}
 use Rattle.run_model.specs.Runtimes.{Memory, StartKeeps, Starts}
+use Rattle.run_model.specs.Turns.{bytes_now}
 use Rattle.run_model.specs.Worlds.{after_start, disks, world_at}
+use Rattle.run_model.specs.WriteLaws.{unchanged}
+use Rattle.run_model.specs.Writes.{AreWholeRoots}
 use Rattle.per_runtime.specs.Memories.{memory_of}
 use Rattle.per_runtime.specs.declared.runtime.Runtime.{Runtime}
 use Rattle.per_run.specs.declared.endings.Ending.{Ending as Way}
@@ -85,6 +88,8 @@ keeps_on {a} {b} {c} first reads later keeps = record {
       let cost : c.written ≤ b.written + roots_cost a.image 8 =
       subst (λ (i : Image). c.written ≤ b.written + roots_cost i 8) reads.image keeps.written in
       omega (arith, same, cost);
+  already = λ are. keeps.already (subst (λ (i : Image). AreWholeRoots i) (sym reads.image) are)
+      ∙ unchanged (bytes_now a) (bytes_now b) reads.image reads.written;
 }
 
 pub starts_on : {a b c : Medium} (memory : Memory) → Elapses a b → OnlyReads a b → Elapses b c → Starts memory b c
@@ -113,7 +118,7 @@ readied_first told medium (Ok x) old mid new blank first reads same begun = reco
     passes = begun.1.passes ∙ same;
     roots = λ tells file is. begun.1.roots tells file is ∙ ap (λ (i : Image). i file) reads.image;
     written = let formats = begun.1.written in let nothing = reads.written in omega (arith, formats, nothing);
-    bare = begun.1.bare;
+    whole = begun.1.whole;
     time = elapses_on first begun.1.formats;
   });
   passes = begun.1.started;
@@ -277,11 +282,11 @@ serves_none laws told medium rules answers left before source sink old new lawfu
 
 pub serves_short : {D : Type 0} → AppLaws → (told : Bool) (medium : D → Medium) (rules : List Rule) (answers : Answers)
     (left before : Option (List ℕ)) (source sink : ℕ) (old new : D) → IsLawful told (medium new)
-    → Elapses (medium old) (medium new) → IsUnready told medium old new
+    → Elapses (medium old) (medium new) → IsUnready told medium old new → (medium new).faults ≡ (medium old).faults
     → Serves told medium rules answers 4 left left before before source source sink sink old new
-serves_short laws told medium rules answers left before source sink old new lawful time (inl keeps) =
+serves_short laws told medium rules answers left before source sink old new lawful time (inl keeps) fed =
     served old (as_it_was keeps.0 refl)
     (serve_none laws told rules answers endings.start_memory 4 left before source sink (medium old) (medium new)
-    (λ begun. begun) lawful time keeps.1 refl tt)
-serves_short laws told medium rules answers left before source sink old new lawful time (inr nothing) =
-    unprepared nothing (inr refl) (Keeps-refl left) (Keeps-refl before)
+    (λ begun. begun) lawful time keeps.1 refl fed)
+serves_short laws told medium rules answers left before source sink old new lawful time (inr nothing) fed =
+    unprepared nothing (inr (refl, fed)) (Keeps-refl left) (Keeps-refl before)

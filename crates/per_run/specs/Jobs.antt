@@ -168,8 +168,10 @@ pub record Generates (told : Bool) (rules : List Rule) (answers : Answers) (n st
   pub bounded : IsTrue told
       → IsGeneratedWithin rules answers lines (generated n) turns (CameToOutput status) old new
   pub settled : IsTrue told → CameToOutput status → IsSettled (last_of formatted (worlds_of turns)) new
-  -- where the start did not end no line was handled, and no more was done than the formatting and the start
-  pub unbegun : ¬ (HasStarted ending) → (lines ≡ []) × (IsTrue told → FormatsWithin (bytes_now old) (bytes_now new))
+  -- where the start did not end no line was handled, and no more was done than the formatting and the start; and where
+  -- memory ran out in them, no call of the disk failed
+  pub unbegun : ¬ (HasStarted ending) → (lines ≡ []) × FailsAtThree status old.faults new.faults
+      × (IsTrue told → FormatsWithin (bytes_now old) (bytes_now new))
   -- and where it did the places are clean, however the job ended
   pub clean : (tells : IsTrue told) → HasStarted ending → (app : ℕ) → app < 8 → AreSoundDoubts app (worlds_of turns)
       → IsSoundEnd app ending (bytes_after (bounded tells).begun turns) new → IsCleanApp app new.image

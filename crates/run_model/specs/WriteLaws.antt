@@ -1,11 +1,12 @@
 -- What is known of the bound on a command: one that writes nothing keeps it, one that names a storage where it stays in
 -- that storage's place, and one whose root was opened first. And of one that is refused: it writes that opening alone.
-use Rattle.std.specs.Prelude.{◌≡◌, ◌≤◌, ℕ, ◌+◌, List, Option, Some, None, Ok, Err}
+use Rattle.std.specs.Prelude.{◌≡◌, ◌≤◌, ◌<◌, ℕ, ◌+◌, List, Option, Some, None, Ok, Err}
 use Rattle.std.proofs.Common.{refl, sym, ap, ap₂, ◌∙◌, subst, le_trans, inl, inr, arith}
 use Rattle.per_base.specs.declared.errors.PerError.{PerError}
 use Rattle.disk_model.specs.Frame.{Spares}
 use Rattle.disk_model.specs.Image.{Image}
 use Rattle.disk_model.specs.Place.{IsNoSlot}
+use Rattle.guarded_cell.specs.Register.{IsAlone}
 use Rattle.migrate_fns.specs.Rules.{Rule, Answers}
 use Rattle.command_text.specs.declared.calls.Call.{Call}
 use Rattle.command_text.specs.declared.calls.Call.TheVariants as call
@@ -20,8 +21,8 @@ use Rattle.run_model.specs.Found.{FoundStorage}
 use Rattle.run_model.specs.Steps.{device_storage, found_named}
 use Rattle.run_model.specs.Turns.{DiskBytes}
 use Rattle.run_model.specs.Worlds.{Application, Sessions, Stage, World, app_of, at_rest, to_open}
-use Rattle.run_model.specs.Writes.{CostsCall, IsBesideCall, IsBesidePlaces, IsCallWithin, IsCommandWithin, IsWholeRoot}
-use Rattle.run_model.specs.Writes.{OpensAtMost}
+use Rattle.run_model.specs.Writes.{AreWholeRoots, CostsCall, IsBesideCall, IsBesidePlaces, IsCallWithin}
+use Rattle.run_model.specs.Writes.{IsCommandWithin, IsWholeRoot, OpensAtMost}
 
 none_some : {A : Type 0} (x : Option A) (a : A) → x ≡ None → x ≡ Some a → ⊥
 none_some x a none some = cc
@@ -42,6 +43,15 @@ unchanged old new image written = ap₂ (λ (i : Image) (n : ℕ). record { imag
 
 no_more : (old new : DiskBytes) → new ≡ old → new.written ≤ old.written
 no_more old new same = let count = ap (λ (b : DiskBytes). b.written) same in omega (arith, count)
+
+-- a root whose text is held alone lacks nothing
+pub whole_root : (image : Image) (app generation : ℕ) (text : List ℕ)
+    → IsAlone image (root_place app) generation text → IsWholeRoot image app
+whole_root image app generation text alone = record { generation = generation; text = text; alone = alone }
+
+pub all_whole : (image : Image) (generation : ℕ) (text : List ℕ)
+    → ((app : ℕ) → app < 8 → IsAlone image (root_place app) generation text) → AreWholeRoots image
+all_whole image generation text alone app lt = whole_root image app generation text (alone app lt)
 
 module _ (rules : List Rule) (answers : Answers) (now : ℕ) (r : Application) where
   -- where nothing is written
