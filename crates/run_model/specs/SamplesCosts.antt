@@ -1,6 +1,6 @@
 -- What calls write at most, computed.
 use Rattle.std.specs.Prelude.{◌≡◌, ◌≤◌, ◌<◌, ℕ, ◌+◌, ◌*◌, List, [], ◌∷◌, Some, None, refl}
-use Rattle.std.proofs.Common.{arith, inr, subst}
+use Rattle.std.proofs.Common.{ap, arith, inr, subst}
 use Rattle.per_base.specs.declared.elements.Content.TheVariants.{Good}
 use Rattle.per_base.specs.declared.errors.PerError.TheVariants as error
 use Rattle.disk_model.specs.Place.{IsNoSlot}
@@ -11,13 +11,14 @@ use Rattle.command_text.specs.declared.calls.Call.{Call}
 use Rattle.command_text.specs.declared.calls.Call.TheVariants as call
 use Rattle.deploy_laws.specs.Places.{root_place, storage_shape}
 use Rattle.deploy_rows.specs.Costs.{format_cost, greatest_cost, install_cost, manifests_at, root_cost}
+use Rattle.run_model.specs.Bounds.{StartsWithin}
 use Rattle.run_model.specs.Costs.{call_cost, finishing_cost, next_cost, opening_cost, update_cost}
 use Rattle.run_model.specs.Samples.{at_first, at_nine, computed, fav, home, in_copies, on, the_plan, world_after}
 use Rattle.run_model.specs.SamplesDamage.{found_so, in_three}
 use Rattle.run_model.specs.SamplesManifests.{cut_text, favourites_text, manifests_read, second_text}
 use Rattle.run_model.specs.Turns.{DiskBytes}
 use Rattle.run_model.specs.Worlds.{Application, World, app_of, at_rest, to_open}
-use Rattle.run_model.specs.Writes.{CostsCall, IsBesideCall, OpensAtMost}
+use Rattle.run_model.specs.Writes.{AreWholeRoots, CostsCall, IsBesideCall, IsWholeRoot, OpensAtMost}
 
 -- what a call of application 0 costs in this world, whose root keeps these manifests
 abbrev cost : List (List ℕ) → World → Call → ℕ
@@ -194,6 +195,18 @@ three_files = omega arith
 an_install : ¬ (IsBesideCall 0 unopened (call.Install favourites_text) 1024)
 unfolding manifests_read storage_shape
 an_install beside = beside.1.0 0 0 one_copy three_files refl
+
+-- nor is that root written where it lacks nothing
+a_whole_root : (old new : DiskBytes) → IsWholeRoot old.image 0 → OpensAtMost 0 to_open old new
+    → new.written ≡ old.written
+a_whole_root old new whole opens = ap (λ (b : DiskBytes). b.written) (opens.already whole)
+
+-- a start writes no byte where no root lacks anything
+a_start : (old new : DiskBytes) → AreWholeRoots old.image → StartsWithin old new
+    → ¬ (new.written ≡ old.written + 1)
+a_start old new whole starts more =
+    let same = ap (λ (b : DiskBytes). b.written) (starts.already whole) in
+    absurd (omega (arith, same, more))
 
 behind_root : (copy parity : ℕ) → copy < 3 → parity < 2 → ¬ (1024 ≡ 0 + 4 * copy + parity)
 behind_root copy parity three two is = absurd (omega (arith, three, two, is))

@@ -33,7 +33,7 @@ use Rattle.run_model.specs.Steps.{after_failure, device_storage, found_named}
 use Rattle.run_model.specs.Turns.{bytes_now}
 use Rattle.run_model.specs.WriteLaws.{call_unwritten}
 use Rattle.run_model.specs.Writes.{IsCallWithin}
-use Rattle.run_model.specs.Worlds.{Application, none_open}
+use Rattle.run_model.specs.Worlds.{Application}
 use Rattle.run_model.specs.Worlds as worlds
 use Rattle.per_runtime.specs.declared.storages.slots.OpenSlots.{OpenSlots}
 use Rattle.per_runtime.specs.storages.Slots.{AreOpenOn, IsResting, resting_with, sessions_in}

@@ -41,7 +41,8 @@ returns-in_err-open_root g c =
           (answers_of c.args.migrations.now) c.args.now (asked_call c.args.asked.now) a c.open_root.new.self old mid
           c.requires.marked said.app closed mid;
       within = λ tells. opened_alone g.D.Disk.told (rules_of c.args.migrations.now) (answers_of c.args.migrations.now)
-          c.args.now (asked_call c.args.asked.now) a old mid c.requires.marked (said.slots tells) (said.once tells);
+          c.args.now (asked_call c.args.asked.now) a old mid c.requires.marked (said.slots tells) (said.once tells)
+          (said.already tells);
       time = said.time;
     })
 
