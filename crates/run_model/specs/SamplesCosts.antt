@@ -64,23 +64,43 @@ opened_before = refl
 
 -- ---- versions
 
--- one storage in one copy, whose key takes one block, and the root with this manifest of 116 bytes
-a_small_install : install_cost 0 favourites_text ≡ 256 + 524464 + 3 * (8 + 116 + 88)
+-- one storage in one copy, whose key `home` takes one block, with an index of 4 bytes and 53 for the key, and the root
+-- with this manifest of 116 bytes
+abbrev one_key : ℕ
+one_key = 256 + (4 + 53) + 5 * 44
+
+abbrev first_root : ℕ
+first_root = 3 * (8 + 116 + 88)
+
+a_small_install : install_cost 0 favourites_text ≡ one_key + first_root
 unfolding manifests_read
 a_small_install = refl
+
+-- with its root written twice, it is out of the bound
+installed_once : (rules : List Rule) (answers : Answers) (w : World) (before : ℕ)
+    → ¬ (CostsCall rules answers 0 0 [] (app_of w 0) (call.Install favourites_text) before
+    (before + (one_key + 2 * first_root)))
+installed_once rules answers w before within =
+    let bounded : before + (one_key + 2 * first_root) ≤ before + (one_key + first_root) =
+    subst (λ (most : ℕ). before + (one_key + 2 * first_root) ≤ before + most) a_small_install within in
+    absurd (omega (arith, bounded))
 
 -- a refused manifest
 a_refused_install : install_cost 0 cut_text ≡ 0
 unfolding manifests_read
 a_refused_install = refl
 
--- updated in one call: four keys, and a root that keeps a manifest of 339 bytes beside that of 116
-a_small_update : update_cost (favourites_text ∷ []) second_text the_plan ≡ 4 * 256 + 524464 + 3 * (12 + 339 + 116 + 88)
+-- updated in one call: the keys `conv`, `keep`, `new` and `over`, and a root that keeps a manifest of 339 bytes beside
+-- that of 116
+abbrev four_keys : ℕ
+four_keys = 4 * 256 + (4 + 53 + 53 + 52 + 53) + 5 * 44
+
+a_small_update : update_cost (favourites_text ∷ []) second_text the_plan ≡ four_keys + 3 * (12 + 339 + 116 + 88)
 unfolding manifests_read
 a_small_update = refl
 
 -- in steps: one storage in one copy, with four keys of a block each, and none once it is made
-one_storage : next_cost (Some the_plan) ≡ 4 * 256 + 524464
+one_storage : next_cost (Some the_plan) ≡ four_keys
 one_storage = refl
 
 none_remains : next_cost (Some (record the_plan { built = 1 })) ≡ 0
