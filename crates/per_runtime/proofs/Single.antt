@@ -135,6 +135,7 @@ pub promised : (told : Bool) (rules : List Rule) (answers : Answers) (now : ℕ)
 promised told rules answers now c a a' Untouched old new result rests said = record {
   end = called told rules answers now c a a' Untouched old new result rests said;
   needs = λ tells bad. inr (said.stopped tells bad).needs;
+  fed = said.fed;
   idle = λ tells none. said.idle tells (uses_none (application old.image a) c none);
   looks = λ plans closed. said.looks plans;
   written = said.written;

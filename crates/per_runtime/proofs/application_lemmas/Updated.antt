@@ -100,6 +100,7 @@ pub record Updates (told : Bool) (rules : List Rule) (answers : Answers) (now : 
   pub unchanged : IfOk made (λ o. (o.refused ≡ None → ⊥)
       → (new.image ≡ old.image) × (new.written ≡ old.written) × (o.root ≡ root))
   pub cause : IsErrOf made stop.Device → Rose old.faults new.faults
+  pub fed : IsErrOf made stop.OutOfMemory → new.faults ≡ old.faults
   pub passes : OnOk made (new.faults ≡ old.faults)
   pub device_only : IsErrOf made stop.Device → IsOk (offered busy text (root_app root []))
   pub outside : Leaves told (IsBesideNext app (free_bank root)) old new
@@ -295,6 +296,7 @@ module _ (told : Bool) (rules : List Rule) (answers : Answers) (now : ℕ) (text
         within = within;
         place = λ tells. names_none b.app (call.Update text) r refl old.image new.image;
         cause = λ bad. absurd cc;
+        fed = λ bad. absurd cc;
         passes = u.passes;
         unfailed = (plain o.refused refl).0;
         text = (plain o.refused refl).1;
@@ -335,6 +337,7 @@ module _ (told : Bool) (rules : List Rule) (answers : Answers) (now : ℕ) (text
         within = within;
         place = λ tells. names_none b.app (call.Update text) r refl old.image new.image;
         cause = λ bad. u.cause refl;
+        fed = λ bad. absurd cc;
         passes = tt;
         unfailed = tt;
         text = tt;
@@ -364,6 +367,7 @@ module _ (told : Bool) (rules : List Rule) (answers : Answers) (now : ℕ) (text
         within = within;
         place = λ tells. names_none b.app (call.Update text) r refl old.image new.image;
         cause = λ bad. absurd cc;
+        fed = λ bad. u.fed refl;
         passes = tt;
         unfailed = tt;
         text = tt;
@@ -400,6 +404,7 @@ pub record Beginning (told : Bool) (rules : List Rule) (answers : Answers) (now 
   pub written : new.written ≡ old.written
   pub idle : Quiet old → IsIdle old new
   pub cause : IsErrOf made stop.Device → Rose old.faults new.faults
+  pub fed : IsErrOf made stop.OutOfMemory → new.faults ≡ old.faults
   pub passes : OnOk made (new.faults ≡ old.faults)
   pub device_only : IsErrOf made stop.Device → IsOk (offered busy text (root_app root []))
   pub any_moment : IsTrue told → StandsThroughout app (app_at old.image app) old new
@@ -482,6 +487,7 @@ module _ (told : Bool) (rules : List Rule) (answers : Answers) (now : ℕ) (text
         x.written;
     place = λ tells. names_none b.app c here refl old.image new.image;
     cause = λ bad. absurd cc;
+    fed = λ bad. absurd cc;
     passes = x.passes;
     unfailed = λ e. cc;
     text = tt;
@@ -533,6 +539,7 @@ module _ (told : Bool) (rules : List Rule) (answers : Answers) (now : ℕ) (text
         x.written;
     place = λ tells. names_none b.app c here refl old.image new.image;
     cause = λ bad. absurd cc;
+    fed = λ bad. absurd cc;
     passes = x.passes;
     unfailed = (begins_plain rules answers now busy text (root_app root x.begins.0) (Err e) x.begins.2).sound;
     text = (begins_plain rules answers now busy text (root_app root x.begins.0) (Err e) x.begins.2).text;
@@ -567,6 +574,7 @@ module _ (told : Bool) (rules : List Rule) (answers : Answers) (now : ℕ) (text
             x.written;
         place = λ tells. names_none b.app c here refl old.image new.image;
         cause = λ bad. x.cause refl;
+        fed = λ bad. absurd cc;
         passes = tt;
         unfailed = tt;
         text = tt;
@@ -597,6 +605,7 @@ module _ (told : Bool) (rules : List Rule) (answers : Answers) (now : ℕ) (text
             x.written;
         place = λ tells. names_none b.app c here refl old.image new.image;
         cause = λ bad. absurd cc;
+        fed = λ bad. x.fed refl;
         passes = tt;
         unfailed = tt;
         text = tt;
