@@ -244,7 +244,8 @@ RunBeginsLaw rules answers old new = (memory : Memory) → Elapses old new → S
 abbrev pub StartStopsLaw : List Rule → Answers → (old new : Medium) → Type 0
 StartStopsLaw rules answers old new = (ending : Ending) (before after : Option (List ℕ)) → Elapses old new
     → ¬ (HasStarted ending) → StartKeeps old new
-    → DiskSide rules answers ending [] [] [] before after old new
+    → DiskSide (record { rules = rules; answers = answers }) ending
+    (record { lines = []; all = []; turns = []; before = before; now = after }) old new
 
 -- A run that came through these turns from `old` to `now`, and then a command that is answered, also by the failure of
 -- the device, which leads from `now` to `new`, are a run that came one turn further: with this command, its reply and
@@ -264,7 +265,8 @@ RunEndsLaw rules answers old now = (ending : Ending) (lines all : List (List ℕ
     → HasStarted ending → Going rules answers (world_at old.image)
     (after_start (world_at old.image)) turns memory doubt old
     now
-    → DiskSide rules answers ending lines all turns before after old now
+    → DiskSide (record { rules = rules; answers = answers }) ending
+    (record { lines = lines; all = all; turns = turns; before = before; now = after }) old now
 
 -- all that a run promises of the disk follows also where the command `e` of the next line, `text`, is in progress, once
 -- the text of every reply before it is written; `others` are the lines after it
@@ -275,4 +277,5 @@ RunStopsLaw rules answers old now new = (ending : Ending) (lines all others : Li
     → Appends before after (replies_text turns) → all ≡ lines ++ text ∷ others → IsLine text (line.Event e)
     → Going rules answers (world_at old.image) (after_start (world_at old.image)) turns memory doubt old now
     → Stopped rules answers e memory doubt now new
-    → DiskSide rules answers ending lines all turns before after old new
+    → DiskSide (record { rules = rules; answers = answers }) ending
+    (record { lines = lines; all = all; turns = turns; before = before; now = after }) old new

@@ -12,6 +12,7 @@ pub mod Turns
 pub mod Writes
 pub mod Bounds
 pub mod Endings
+pub mod Edges
 pub mod Runs
 pub mod WriteLaws
 pub mod AppLaws

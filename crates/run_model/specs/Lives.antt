@@ -18,6 +18,7 @@ use Rattle.deploy_laws.specs.Places.{IsFileOf, IsNoFileOf}
 use Rattle.deploy_laws.specs.Stands.{Stands, StandsCase, same_root, HasEnoughRoot}
 use Rattle.deploy_rows.specs.Rows.{reopened}
 use Rattle.run_model.specs.AppLaws.{AppLaws}
+use Rattle.run_model.specs.Edges.{Converters, Edges}
 use Rattle.run_model.specs.Endings.{Ending}
 use Rattle.run_model.specs.Moments.{
   AreImaged,
@@ -35,8 +36,8 @@ use Rattle.run_model.specs.Resting.{stands_itself}
 use Rattle.run_model.specs.RunLaws.{imaged_last}
 use Rattle.run_model.specs.Starting.{at_entry, between_worlds}
 use Rattle.run_model.specs.Lines.{lines_of}
-use Rattle.run_model.specs.Runs.{DiskSide, Run, Progress, starting, between, within}
-use Rattle.run_model.specs.Turns.{DiskBytes, Turn, bytes_now, worlds_of}
+use Rattle.run_model.specs.Runs.{DiskSide, Handling, Progress, Reach, Run, starting, between, within}
+use Rattle.run_model.specs.Turns.{worlds_of}
 use Rattle.run_model.specs.Worlds.{Disks, Doubt, World, after_start, disk_at, disks, world_at}
 
 -- ---- the pairs between which an application may stand
@@ -116,32 +117,27 @@ pub record LooksOnly (old new : Medium) : Type 0 where
 -- after each command that failed has nothing of the application that passes its hash by chance
 pub record Ran (rules : List Rule) (answers : Answers) (app : ℕ) (old new : Medium) : Type 0 where
   pub ending : Ending
-  pub lines : List (List ℕ)
-  pub all : List (List ℕ)
-  pub turns : List Turn
-  pub before : Option (List ℕ)
-  pub now : Option (List ℕ)
-  pub disk : DiskSide rules answers ending lines all turns before now old new
+  pub handling : Handling
+  pub disk : DiskSide (record { rules = rules; answers = answers }) ending handling old new
   pub sound : AreSoundDoubts app disk.reached
 
 -- any run is one, where what its failed commands read is sound
-pub ran_of : (told : Bool) (tells : IsTrue told) (rules : List Rule) (answers : Answers) (status : ℕ)
-    (left_before left_now before now : Option (List ℕ)) (source_before source_now sink_before sink_now : ℕ) (app : ℕ)
-    (old new : Medium)
-    → (run : Run told rules answers status left_before left_now before now source_before source_now sink_before sink_now
-    old new)
-    → AreSoundDoubts app (run.disk tells).reached → Ran rules answers app old new
-ran_of told tells rules answers status left_before left_now before now source_before source_now sink_before sink_now app
-    old new run sound = record {
-      ending = run.ending;
-      lines = run.lines;
-      all = lines_of run.ended run.given;
-      turns = run.turns;
-      before = before;
-      now = now;
-      disk = run.disk tells;
-      sound = sound;
-    }
+pub ran_of : (told : Bool) (tells : IsTrue told) (converters : Converters) (status : ℕ) (app : ℕ)
+    (before after : Edges Medium) → (run : Run told converters status before after)
+    → AreSoundDoubts app (run.disk tells).reached
+    → Ran converters.rules converters.answers app before.disk after.disk
+ran_of told tells converters status app before after run sound = record {
+  ending = run.ending;
+  handling = record {
+    lines = run.lines;
+    all = lines_of run.ended run.given;
+    turns = run.turns;
+    before = before.taken;
+    now = after.taken;
+  };
+  disk = run.disk tells;
+  sound = sound;
+}
 
 -- the pairs after a run, from those before it
 abbrev pub pairs_of_run : {rules : List Rule} → {answers : Answers} → (app : ℕ) → (old new : Medium)
@@ -612,16 +608,11 @@ stops_keep laws app lt old new m pairs known job stop = stopped_so app (JobMayLe
 abbrev pub HasFirst : (start : World) → (reached : List World) → (next : Disks) → Type 0
 HasFirst start reached next = ((reached ≡ []) × (next ≡ disks start)) ⊎ ((ws : List World) × (reached ≡ start ∷ ws))
 
-first_of : (rules : List Rule) (answers : Answers) (how : Ending) (start : World) (lines all : List (List ℕ))
-    (turns : List Turn) (before now : Option (List ℕ)) (reached : List World) (next : Disks) (begun held : DiskBytes)
-    → Progress rules answers how start lines all turns before now reached next begun held
-    → HasFirst start reached next
-first_of rules answers _ start lines all turns before now reached next begun held (starting a b c d none is e) =
-    inl (none, is)
-first_of rules answers _ start lines all turns before now reached next begun held (between a is b c) =
-    inr (worlds_of turns, is)
-first_of rules answers _ start lines all turns before now reached next begun held (within a b c is d) =
-    inr (worlds_of turns, is)
+first_of : (converters : Converters) (how : Ending) (start : World) (handling : Handling) (reach : Reach)
+    → Progress converters how start handling reach → HasFirst start reach.worlds reach.next
+first_of converters how start handling reach (starting a b c d none is e) = inl (none, is)
+first_of converters how start handling reach (between a is b c) = inr (worlds_of handling.turns, is)
+first_of converters how start handling reach (within a b c is d) = inr (worlds_of handling.turns, is)
 
 first_moment : (app : ℕ) (entry start : World) (reached : List World) (next : Disks) (c : Case) → start.doubt ≡ None
     → Between app (disks entry) (disks start) c → HasFirst start reached next → IsMomentOf app entry reached next c
@@ -637,18 +628,15 @@ unfolding world_at
 start_calm image = refl
 
 -- each moment of such a run is one of its own
-pub quiet_always : AppLaws → (rules : List Rule) (answers : Answers) (app : ℕ) → app < 8 → (how : Ending)
-    (lines all : List (List ℕ)) (turns : List Turn) (before now : Option (List ℕ)) (old new : Medium)
-    → (run : DiskSide rules answers how lines all turns before now old new) → Quiet old → IsCleanApp app old.image
+pub quiet_always : AppLaws → (converters : Converters) (app : ℕ) → app < 8 → (how : Ending) (handling : Handling)
+    (old new : Medium) → (run : DiskSide converters how handling old new) → Quiet old → IsCleanApp app old.image
     → AreSoundDoubts app run.reached → EachCase (IsMomentOf app (world_at old.image) run.reached run.next) old new
-quiet_always laws rules answers app lt _ lines all turns before now old new run quiet clean sound c s = ⊎_elim
+quiet_always laws converters app lt how handling old new run quiet clean sound c s = ⊎_elim
     (λ was. first_moment app (world_at old.image) (after_start (world_at old.image)) run.reached run.next c
     (start_calm old.image)
     (between_worlds old.image app lt c (laws.still app old.image (reopened (app_at old.image app)) c lt clean
     (settled_on (IsFileOf app) (quiet c was)) (same_root refl refl)))
-    (first_of rules answers _ (after_start (world_at old.image)) lines all turns before now run.reached run.next
-    run.begun
-    (bytes_now new) run.progress))
+    (first_of converters how (after_start (world_at old.image)) handling _ run.progress))
     (λ moment. moment)
     (run.everywhen.always app lt clean sound c s)
 

@@ -493,7 +493,8 @@ entry_imaged app lt image = ((image, at_entry image app lt), tt)
 
 pub start_disk : AppLaws → (rules : List Rule) (answers : Answers) (ending : Ending) (before after : Option (List ℕ))
     (told : Bool) (old new : Medium) → IsLawful told new → Elapses old new
-    → ¬ (HasStarted ending) → StartKeeps old new → DiskSide rules answers ending [] [] [] before after old new
+    → ¬ (HasStarted ending) → StartKeeps old new → DiskSide (record { rules = rules; answers = answers }) ending
+    (record { lines = []; all = []; turns = []; before = before; now = after }) old new
 start_disk laws rules answers how before after told old new lawful time open_end keeps = record {
   follow = tt;
   worlds = (starts_so old.image, tt);
@@ -538,7 +539,8 @@ pub ends_disk : AppLaws → (rules : List Rule) (answers : Answers) (ending : En
     (turns : List Turn) (before after : Option (List ℕ))
     (memory : Memory) (doubt : Option Doubt) (old now : Medium) → HasStarted ending
     → Going rules answers (world_at old.image) (after_start (world_at old.image)) turns memory doubt old now
-    → DiskSide rules answers ending lines all turns before after old now
+    → DiskSide (record { rules = rules; answers = answers }) ending
+    (record { lines = lines; all = all; turns = turns; before = before; now = after }) old now
 ends_disk laws rules answers _ lines all turns before after memory doubt old now started_well going = record {
   follow = going.follow;
   worlds = going.worlds;
@@ -565,7 +567,8 @@ pub stops_disk : AppLaws → (rules : List Rule) (answers : Answers) (ending : E
     → ¬ (HasEnded ending) → Appends before after (replies_text turns) → all ≡ lines ++ text ∷ others
     → IsLine text (line.Event e) → Going rules answers (world_at old.image) (after_start (world_at old.image)) turns
     memory doubt old now
-    → Stopped rules answers e memory doubt now new → DiskSide rules answers ending lines all turns before after old new
+    → Stopped rules answers e memory doubt now new → DiskSide (record { rules = rules; answers = answers }) ending
+    (record { lines = lines; all = all; turns = turns; before = before; now = after }) old new
 stops_disk laws rules answers ending lines all others text turns before after e memory doubt told old now new lawful
     time started_well open_end wrote is_next spelled going s = record {
       follow = going.follow;

@@ -4,13 +4,13 @@ use Rattle.std.specs.List.{AllByRecursion}
 use Rattle.std.specs.Io.KnownBytes.{Appends, Consumes, IsAtEnd}
 use Rattle.disk_model.specs.Case.{Case}
 use Rattle.disk_model.specs.Medium.{Medium, Quiet, OnlyReads, EachCase, Elapses}
-use Rattle.migrate_fns.specs.Rules.{Rule, Answers}
 use Rattle.command_text.specs.declared.calls.Event.{Event}
 use Rattle.command_text.specs.declared.lines.Line.TheVariants as line
 use Rattle.command_text.specs.Grammar.{IsLine}
 use Rattle.deploy_laws.specs.Apps.{IsCleanApp}
 use Rattle.deploy_laws.specs.Pieces.{IsSoundApp}
 use Rattle.run_model.specs.Bounds.{AreBounded, IsBegunWithin, StartsWithin, bytes_after}
+use Rattle.run_model.specs.Edges.{Converters, Edges, failures_at}
 use Rattle.run_model.specs.Endings.{Ending, ending_status, HasStarted, HasEnded, HasCauseOf, EndsBy, IsInput}
 use Rattle.run_model.specs.Lasting.{IsWorld}
 use Rattle.run_model.specs.Lines.{lines_of, Give}
@@ -59,35 +59,57 @@ pub record IsSettled (w : World) (new : Medium) : Type 0 where
   pub world : world_at new.image ≡ after_run w
   pub quiet : w.doubt ≡ None → Quiet new
 
--- a command in progress is that of the next line, and leads there; it began at the bytes `left`
-pub record IsInProgress (rules : List Rule) (answers : Answers) (w : World) (lines all : List (List ℕ))
-    (next : Disks) (left now : DiskBytes) : Type 0 where
+-- The lines that were handled, in order and none left out, of the lines `all`; the commands that they gave, each with
+-- its reply; and what the sink had taken before, and has taken now.
+pub record Handling : Type 0 where
+  pub lines : List (List ℕ)
+  pub all : List (List ℕ)
+  pub turns : List Turn
+  pub before : Option (List ℕ)
+  pub now : Option (List ℕ)
+
+-- the same where nothing is said of the sink
+abbrev pub without_sink : (lines all : List (List ℕ)) → List Turn → Handling
+without_sink lines all turns = record { lines = lines; all = all; turns = turns; before = None; now = None }
+
+-- how far a run came: the worlds, what was in progress, and the disk's bytes after the start and at the end
+pub record Reach : Type 0 where
+  pub worlds : List World
+  pub next : Disks
+  pub begun : DiskBytes
+  pub held : DiskBytes
+
+-- a command in progress is that of the next line, from the last world on, and leads to `next`; it began at the bytes
+-- that the last command left, from the bytes `begun` of the start on, and the disk's bytes are `held` now
+pub record IsInProgress (converters : Converters) (start : World) (handling : Handling) (next : Disks)
+    (begun held : DiskBytes) : Type 0 where
   pub text : List ℕ
   pub others : List (List ℕ)
   pub event : Event
-  pub is_next : all ≡ lines ++ text ∷ others
+  pub is_next : handling.all ≡ handling.lines ++ text ∷ others
   pub spelled : IsLine text (line.Event event)
-  pub leads : Leads rules answers w event next
-  pub bounded : IsBegunWithin rules answers w event left now
+  pub leads : Leads converters.rules converters.answers (last_of start (worlds_of handling.turns)) event next
+  pub bounded : IsBegunWithin converters.rules converters.answers (last_of start (worlds_of handling.turns)) event
+      (bytes_after begun handling.turns) held
 
--- How far a run came, through the commands that were answered, of the lines `all`: `reached` are the worlds, and `next`
--- is what was in progress; `before` and `now` are the bytes written, and the disk's bytes were `begun` after the start
--- and are `held` at the end.
-pub data Progress (rules : List Rule) (answers : Answers) (ending : Ending) (start : World) (lines all : List (List ℕ))
-    (turns : List Turn) (before now : Option (List ℕ))
-    (reached : List World) (next : Disks) (begun held : DiskBytes) : Type 0 where
-  -- the start did not end: no line was taken, and nothing was handled
-  starting : ¬ (HasStarted ending) → lines ≡ [] → all ≡ [] → turns ≡ [] → reached ≡ [] → next ≡ disks start
-      → held ≡ begun → Progress rules answers ending start lines all turns before now reached next begun held
-  -- nothing is in progress, and nothing was written after the last command
-  between : HasStarted ending → reached ≡ start ∷ worlds_of turns → next ≡ disks (last_of start (worlds_of turns))
-      → held ≡ bytes_after begun turns
-      → Progress rules answers ending start lines all turns before now reached next begun held
-  -- the command of the next line is, and the text of every reply was written before it was begun
-  within : HasStarted ending → ¬ (HasEnded ending) → Appends before now (replies_text turns)
-      → reached ≡ start ∷ worlds_of turns
-      → IsInProgress rules answers (last_of start (worlds_of turns)) lines all next (bytes_after begun turns) held
-      → Progress rules answers ending start lines all turns before now reached next begun held
+-- how far a run came, through the commands that were answered
+pub data Progress (converters : Converters) (ending : Ending) (start : World) (handling : Handling)
+    (reach : Reach) : Type 0
+  where
+    -- the start did not end: no line was taken, and nothing was handled
+    starting : ¬ (HasStarted ending) → handling.lines ≡ [] → handling.all ≡ [] → handling.turns ≡ []
+        → reach.worlds ≡ [] → reach.next ≡ disks start → reach.held ≡ reach.begun
+        → Progress converters ending start handling reach
+    -- nothing is in progress, and nothing was written after the last command
+    between : HasStarted ending → reach.worlds ≡ start ∷ worlds_of handling.turns
+        → reach.next ≡ disks (last_of start (worlds_of handling.turns))
+        → reach.held ≡ bytes_after reach.begun handling.turns → Progress converters ending start handling reach
+    -- the command of the next line is, and the text of every reply was written before it was begun
+    within : HasStarted ending → ¬ (HasEnded ending)
+        → Appends handling.before handling.now (replies_text handling.turns)
+        → reach.worlds ≡ start ∷ worlds_of handling.turns
+        → IsInProgress converters start handling reach.next reach.begun reach.held
+        → Progress converters ending start handling reach
 
 -- At the end of a run nothing of the application passes its hash by chance: every command that was begun has ended; or
 -- no byte was written after the last one that did, which left these bytes; or what reads now give is sound.
@@ -96,61 +118,62 @@ pub data IsSoundEnd (app : ℕ) (ending : Ending) (last : DiskBytes) (new : Medi
   none_written : HasStarted ending → bytes_now new ≡ last → IsSoundEnd app ending last new
   sound_reads : (c : Case) → new.now c → c.left ≡ new.image → IsSoundApp app c → IsSoundEnd app ending last new
 
--- What a run promises of a disk whose bytes are modelled, for the lines that were handled, of the lines `all`, the
--- commands that they gave, and the bytes that were written before and now.
-pub record DiskSide (rules : List Rule) (answers : Answers) (ending : Ending) (lines all : List (List ℕ))
-    (turns : List Turn) (before now : Option (List ℕ)) (old new : Medium) : Type 0 where
+-- what a run promises of a disk whose bytes are modelled
+pub record DiskSide (converters : Converters) (ending : Ending) (handling : Handling) (old new : Medium) : Type 0 where
   -- each reply and each world is the specified one
-  pub follow : Follow rules answers (after_start (world_at old.image)) turns
-  pub worlds : AllByRecursion IsWorld (after_start (world_at old.image) ∷ worlds_of turns)
+  pub follow : Follow converters.rules converters.answers (after_start (world_at old.image)) handling.turns
+  pub worlds : AllByRecursion IsWorld (after_start (world_at old.image) ∷ worlds_of handling.turns)
   -- a doubt has a case of the disk since the start, and what reads then gave
-  pub cases : AreCases (IsReadSince old new) (worlds_of turns)
+  pub cases : AreCases (IsReadSince old new) (worlds_of handling.turns)
   -- the end of the last command
-  pub settled : HasEnded ending → IsSettled (last_of (after_start (world_at old.image)) (worlds_of turns)) new
+  pub settled : HasEnded ending
+      → IsSettled (last_of (after_start (world_at old.image)) (worlds_of handling.turns)) new
   pub reached : List World
   pub next : Disks
   -- what the start and each command wrote; `begun` are the bytes that the start left, however it ended
   pub begun : DiskBytes
   pub starts : StartsWithin (bytes_now old) begun
-  pub bounded : AreBounded rules answers (after_start (world_at old.image)) begun turns
-  pub progress : Progress rules answers ending (after_start (world_at old.image)) lines all turns before now reached
-      next
-      begun (bytes_now new)
+  pub bounded : AreBounded converters.rules converters.answers (after_start (world_at old.image)) begun
+      handling.turns
+  pub progress : Progress converters ending (after_start (world_at old.image)) handling
+      (record { worlds = reached; next = next; begun = begun; held = bytes_now new })
   -- each application, and what was there before a command that left a doubt, is what some image denotes
   pub imaged : (app : ℕ) → app < 8 → AreImaged app reached
   -- the places that were clean are clean again, however the run ended
-  pub clean : (app : ℕ) → app < 8 → IsCleanApp app old.image → AreSoundDoubts app (worlds_of turns)
-      → IsSoundEnd app ending (bytes_after begun turns) new → IsCleanApp app new.image
+  pub clean : (app : ℕ) → app < 8 → IsCleanApp app old.image → AreSoundDoubts app (worlds_of handling.turns)
+      → IsSoundEnd app ending (bytes_after begun handling.turns) new → IsCleanApp app new.image
   -- every moment
   pub everywhen : Everywhen (world_at old.image) reached next old new
 
 -- ---- a run over accepted words
 
--- One course of lines, commands, replies and worlds serves all of it. Of the source and of the sink it takes how many
--- of their calls failed.
-pub record Run (told : Bool) (rules : List Rule) (answers : Answers) (status : ℕ)
-    (left_before left_now before now : Option (List ℕ))
-    (source_before source_now sink_before sink_now : ℕ) (old new : Medium) : Type 0 where
+-- One course of lines, commands, replies and worlds serves all of it.
+pub record Run (told : Bool) (converters : Converters) (status : ℕ) (before after : Edges Medium) : Type 0 where
   pub ending : Ending
   pub status_is : status ≡ ending_status ending
   -- the bytes that the source gave, and whether its end was seen; after as many as are allowed nobody looks for the
   -- end
   pub given : List ℕ
-  pub taken : Consumes left_before left_now given
+  pub taken : Consumes before.left after.left given
   -- at most 64 MiB
   pub bound : length given ≤ 67108864
   pub ended : Bool
-  pub end_seen : IsTrue ended → IsAtEnd left_now × (length given < 67108864)
+  pub end_seen : IsTrue ended → IsAtEnd after.left × (length given < 67108864)
   pub input : IsInput ending ended (length given)
   -- the lines that were handled, in order and none left out, and the commands that they gave
   pub lines : List (List ℕ)
   pub turns : List Turn
   pub gives : Give lines (events_of turns)
-  pub ends : EndsBy ending lines (lines_of ended given) turns before now
+  pub ends : EndsBy ending lines (lines_of ended given) turns before.taken after.taken
   -- also over a disk that models nothing: what a failure has to do with the status and with each reply, and how time
   -- goes on
-  pub cause : HasCauseOf ending (record { disk = old.faults; source = source_before; sink = sink_before })
-      (record { disk = new.faults; source = source_now; sink = sink_now })
-  pub failures : CountsFailures (HasEnded ending) old.faults turns new.faults
-  pub time : Elapses old new
-  pub disk : IsTrue told → DiskSide rules answers ending lines (lines_of ended given) turns before now old new
+  pub cause : HasCauseOf ending (failures_at before) (failures_at after)
+  pub failures : CountsFailures (HasEnded ending) before.disk.faults turns after.disk.faults
+  pub time : Elapses before.disk after.disk
+  pub disk : IsTrue told → DiskSide converters ending (record {
+    lines = lines;
+    all = lines_of ended given;
+    turns = turns;
+    before = before.taken;
+    now = after.taken;
+  }) before.disk after.disk
