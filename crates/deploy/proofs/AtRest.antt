@@ -1,5 +1,5 @@
 -- A register on a disk at which nothing was done: what its stops leave.
-use Rattle.std.proofs.Common.{ℕ, List, Bool, ap, inl}
+use Rattle.std.proofs.Common.{ℕ, List, Bool, inl}
 use Rattle.disk_model.specs.Case.{Case, IsSettledAt}
 use Rattle.disk_model.specs.Frame.{IsSettledOn}
 use Rattle.disk_model.specs.Image.{Image}

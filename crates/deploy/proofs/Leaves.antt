@@ -1,8 +1,6 @@
 -- Files that calls leave alone, from call to call.
-use Rattle.std.proofs.Common.{ℕ, Bool, refl, ap, ◌∙◌}
-use Rattle.disk_model.specs.Case.{Case, IsSettledAt}
-use Rattle.disk_model.specs.Frame.{IsSettledOn, Spares}
-use Rattle.disk_model.specs.Image.{Image}
+use Rattle.std.proofs.Common.{ℕ, Bool, refl, ◌∙◌}
+use Rattle.disk_model.specs.Frame.{IsSettledOn}
 use Rattle.disk_model.specs.Laws.{goes_none, goes_on}
 use Rattle.disk_model.specs.Medium.{Elapses, IsLawful, Medium, Quiet}
 use Rattle.disk_model.specs.lemmas.Frames.{settled_before, settled_less, settled_on}

@@ -1,5 +1,5 @@
 -- Storages that are made one after another: in whose places, and what they cost.
-use Rattle.std.proofs.Common.{◌≡◌, ℕ, zero, suc, ◌+◌, ◌*◌, ◌<◌, ◌≤◌, List, [], ◌∷◌, length, get_or, take, drop, Bool}
+use Rattle.std.proofs.Common.{◌≡◌, ℕ, zero, suc, ◌+◌, ◌<◌, ◌≤◌, List, [], ◌∷◌, length, get_or, take, drop, Bool}
 use Rattle.std.proofs.Common.{IsTrue, refl, sym, ap, ◌∙◌, subst, arith}
 use Rattle.std.specs.Prelude.{Option, None, Result, Ok, map}
 use Rattle.per_base.specs.declared.elements.Fresh.{Fresh}
@@ -11,7 +11,7 @@ use Rattle.deployment_model.specs.Conditions.{IsStorage}
 use Rattle.deployment_model.specs.Data.{DeploymentData, StorageData, deployment_data, storage_data}
 use Rattle.deployment_model.specs.declared.configs.StorageConfig.{StorageConfig}
 use Rattle.element_state.specs.declared.shapes.Shape.{Shape}
-use Rattle.element_store.specs.Plans.{blocks_of_all}
+use Rattle.element_store.specs.Creates.{creating_cost}
 use Rattle.root_text.specs.declared.versions.VersionText.{VersionText}
 use Rattle.deploy_laws.specs.Places.{cut_copies, shapes_from, shapes_in, storage_shape}
 use Rattle.deploy_rows.specs.Costs.{cost_by, install_cost, making_cost, making_costs, root_cost, said_storages}
@@ -41,20 +41,18 @@ made_in_place told shape other old new is elsewhere outside =
 -- at its cost
 pub made_at_cost : (shape : Shape) (app bank number : ℕ) (s : StorageData) (cs fs : List Fresh) (was now : ℕ)
     → shape ≡ storage_shape app bank number s → cs ≡ fs → IsStorage s
-    → now ≤ was + shape.place.copies * (256 * blocks_of_all cs + 524244 + 5 * 44) → now ≤ was + making_cost s fs
+    → now ≤ was + creating_cost shape.place.copies shape.kind cs → now ≤ was + making_cost s fs
 unfolding storage_shape
 made_at_cost shape app bank number s cs fs was now is same of le =
     let some = of.some_agree in
     let enough = of.enough_copies in
     let few = of.copies in
     let copies : cut_copies s.n ≡ s.n = omega (arith, some, enough, few) in
-    let each : 256 * blocks_of_all cs + 524244 + 5 * 44 ≡ 256 * blocks_of_all cs + 524464 = omega arith in
-    let here : now ≤ was + cut_copies s.n * (256 * blocks_of_all cs + 524244 + 5 * 44) =
-    subst (λ (it : Shape). now ≤ was + it.place.copies * (256 * blocks_of_all cs + 524244 + 5 * 44)) is le in
-    let counted : now ≤ was + s.n * (256 * blocks_of_all cs + 524464) =
-    subst (λ (n : ℕ). now ≤ was + s.n * n) each
-    (subst (λ (n : ℕ). now ≤ was + n * (256 * blocks_of_all cs + 524244 + 5 * 44)) copies here) in
-    subst (λ (es : List Fresh). now ≤ was + s.n * (256 * blocks_of_all es + 524464)) same counted
+    let here : now ≤ was + creating_cost (cut_copies s.n) s.kind cs =
+    subst (λ (it : Shape). now ≤ was + creating_cost it.place.copies it.kind cs) is le in
+    let counted : now ≤ was + creating_cost s.n s.kind cs =
+    subst (λ (n : ℕ). now ≤ was + creating_cost n s.kind cs) copies here in
+    subst (λ (es : List Fresh). now ≤ was + creating_cost s.n s.kind es) same counted
 
 -- ---- one of many
 

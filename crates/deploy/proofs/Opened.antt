@@ -2,7 +2,7 @@
 -- of it.
 use Rattle.std.proofs.Common.{◌≡◌, ℕ, ◌<◌, Bool, Some, refl, sym, ap, ◌∙◌, subst}
 use Rattle.std.specs.Prelude.{IsTrue, Result, Ok}
-use Rattle.disk_model.specs.Case.{Case, IsSettledAt}
+use Rattle.disk_model.specs.Case.{Case}
 use Rattle.disk_model.specs.Frame.{IsSettledOn, Spares}
 use Rattle.disk_model.specs.Image.{Image}
 use Rattle.disk_model.specs.Laws.{goes_on}

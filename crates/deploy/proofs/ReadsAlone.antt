@@ -1,12 +1,9 @@
 -- A call that only reads: the application stands as it was, at every moment of it.
-use Rattle.std.proofs.Common.{◌≡◌, ℕ, ◌<◌, List, [], Bool, refl, ap}
+use Rattle.std.proofs.Common.{◌≡◌, ℕ, ◌<◌, List, [], Bool, refl}
 use Rattle.std.specs.Prelude.{IfOk, Option, Result, Err}
 use Rattle.per_base.specs.declared.errors.PerError.{PerError}
 use Rattle.per_base.specs.declared.errors.PerError.TheVariants as error
 use Rattle.per_base.specs.declared.errors.Unit.TheVariants as unit
-use Rattle.disk_model.specs.Case.{Case, IsSettledAt}
-use Rattle.disk_model.specs.Frame.{IsSettledOn}
-use Rattle.disk_model.specs.Image.{Image}
 use Rattle.disk_model.specs.Laws.{goes_none}
 use Rattle.disk_model.specs.Medium.{IsIdle, IsLawful, Medium, Quiet}
 use Rattle.disk_model.specs.lemmas.Frames.{settled_on}

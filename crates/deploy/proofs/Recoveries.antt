@@ -11,7 +11,6 @@ use Rattle.per_base.specs.declared.elements.StoreKind.TheVariants.{Keys, Files}
 use Rattle.per_base.specs.declared.errors.PerError.{PerError}
 use Rattle.per_base.specs.declared.errors.PerError.TheVariants as error
 use Rattle.per_base.specs.declared.errors.Limit.TheVariants as limit
-use Rattle.disk_model.specs.Case.{Case, IsSettledAt}
 use Rattle.disk_model.specs.Frame.{IsSettledOn}
 use Rattle.disk_model.specs.Image.{Image}
 use Rattle.disk_model.specs.lemmas.Frames.{settled_on}

@@ -13,7 +13,7 @@ use Rattle.guarded_cell.specs.declared.cell.Cell.{Cell}
 use Rattle.root_text.specs.declared.versions.VersionText.{VersionText}
 use Rattle.root_text.specs.declared.versions.RootSays.{RootSays}
 use Rattle.root_text.specs.declared.versions.RootSays.TheVariants as said
-use Rattle.root_text.specs.RootText.{Version, long_text, root_text}
+use Rattle.root_text.specs.RootText.{long_text, root_text}
 use Rattle.root_text.specs.RootText as text
 use Rattle.root_text.specs.Views.{root_said, version_said}
 use Rattle.deploy_laws.specs.Places.{root_place}

@@ -1,9 +1,7 @@
 -- A disk that a call did not touch.
-use Rattle.std.proofs.Common.{◌≡◌, ℕ, ◌<◌, Bool, Result, Ok, Err, refl, ap}
+use Rattle.std.proofs.Common.{◌≡◌, ℕ, ◌<◌, Bool, Result, Ok, Err, refl}
 use Rattle.per_base.specs.declared.errors.PerError.{PerError}
-use Rattle.disk_model.specs.Case.{Case, IsSettledAt}
 use Rattle.disk_model.specs.Frame.{IsSettledOn}
-use Rattle.disk_model.specs.Image.{Image}
 use Rattle.disk_model.specs.Laws.{goes_none}
 use Rattle.disk_model.specs.Medium.{IsLawful, Medium}
 use Rattle.disk_model.specs.lemmas.Frames.{settled_on}

@@ -6,6 +6,7 @@ ghost use Rattle.disk_model.specs.Frame.{Spares};
 ghost use Rattle.disk_model.specs.Medium.{EachCase, Elapses, Quiet};
 ghost use Rattle.disk_model.specs.Place.{IsNoSlot};
 ghost use Rattle.guarded_cell.specs.Cells.{CellAt, IsCellOf};
+ghost use Rattle.guarded_cell.specs.Register.{IsAlone};
 ghost use Rattle.guarded_cell.specs.Stops.{FormatStops};
 ghost use Rattle.root_text.specs.RootText.{absent, root_text};
 ghost use Rattle.deploy_laws.specs.Apps.{IsCleanApp, app_at, root_sole};
@@ -36,6 +37,9 @@ pub fn format_all<D: Disk>(alloc: Global, disk: &mut D) -> Result<(), Stop>
     ensures settled { IsTrue D.told → OnOk result ((app : ℕ) → app < 8
         → IsTrue (root_sole (D.medium disk.new).image app)) }
     ensures clean { IsTrue D.told → OnOk result ((app : ℕ) → app < 8 → IsCleanApp app (D.medium disk.new).image) }
+    // Every copy of each root holds the text that nothing is installed, and no other text is held.
+    ensures alone { IsTrue D.told → OnOk result ((app : ℕ) → app < 8
+        → IsAlone (D.medium disk.new).image (root_place app) 1 (root_text absent)) }
     ensures quiet { OnOk result (Quiet (D.medium disk.new)) }
     // The count of faults rose where the device failed, and stayed where the call succeeded or memory ran out.
     ensures cause { IsErrOf result Stop.Device → Rose (D.medium disk.old).faults (D.medium disk.new).faults }

@@ -2,10 +2,10 @@
 use Rattle.std.specs.Prelude.{ℕ, ◌+◌, ◌*◌, List, [], ◌∷◌, length, sum_by, Option, Some, None, Result, Ok, Err}
 use Rattle.per_base.specs.declared.elements.Fresh.{Fresh}
 use Rattle.per_base.specs.declared.errors.PerError.{PerError}
-use Rattle.per_base.specs.Contents.{blocks_for}
 use Rattle.disk_model.specs.Image.{Image}
 use Rattle.guarded_cell.specs.declared.looking.Seen.{Seen}
 use Rattle.guarded_cell.specs.Held.{standing}
+use Rattle.element_store.specs.Creates.{creating_cost}
 use Rattle.deployment_model.specs.Data.{DeploymentData, StorageData}
 use Rattle.root_text.specs.RootText.{root_of}
 use Rattle.root_text.specs.RootText as text
@@ -56,10 +56,9 @@ greatest_cost = 3 * (131084 + 88)
 
 -- ---- storages
 
--- what the making of a storage costs: in each copy its contents in whole blocks of 256 bytes, the longest index, of
--- 524,244 bytes, and 44 bytes five times, for the head of the index and for four blanks
+-- what the making of a storage with these contents costs: its creation, in each of its copies
 abbrev pub making_cost : StorageData → List Fresh → ℕ
-making_cost s contents = s.n * (256 * sum_by (λ (f : Fresh). blocks_for (length f.bytes)) contents + 524464)
+making_cost s contents = creating_cost s.n s.kind contents
 
 -- the same of storages with the contents of each
 abbrev pub making_costs : List StorageData → List (List Fresh) → ℕ

@@ -11,11 +11,11 @@ use Rattle.guarded_cell.specs.Differing.{front_cost, texts_cost}
 use Rattle.per_base.specs.declared.elements.Content.{Content}
 use Rattle.per_base.specs.declared.elements.Entry.{Entry}
 use Rattle.disk_model.specs.declared.place.Place.{Place}
-use Rattle.disk_model.specs.Medium.{Medium, Quiet, Elapses, EachCase, IsLawful}
+use Rattle.disk_model.specs.Medium.{Medium, Quiet, Elapses, EachCase}
 use Rattle.disk_model.specs.Frame.{Spares, IsSettledOn, Keeps}
 use Rattle.disk_model.specs.Place.{IsNoArea, IsNoSlot, IsOutside}
-use Rattle.disk_model.specs.lemmas.Frames.{case_less, keeps_less, settled_before, settled_less, settled_on}
-use Rattle.disk_model.specs.Laws.{cases_on, goes_none}
+use Rattle.disk_model.specs.lemmas.Frames.{case_less, keeps_less, settled_before, settled_less}
+use Rattle.disk_model.specs.Laws.{cases_on}
 use Rattle.disk_model.specs.lemmas.Places.{outside_no_slot, outside_no_area}
 use Rattle.guarded_cell.specs.declared.cell.Cell.{Cell}
 use Rattle.guarded_cell.specs.Cells.{place_of, CellAt, IsCellOf}
@@ -39,14 +39,14 @@ use Rattle.index_text.specs.Spelling.{index_text}
 use Rattle.element_state.specs.declared.shapes.Shape.{Shape}
 use Rattle.element_state.specs.declared.shapes.View.{View}
 use Rattle.element_state.specs.Fit.{fit_index}
-use Rattle.element_state.specs.States.{State, Opens, store_at, whole_view}
+use Rattle.element_state.specs.States.{State, Opens, whole_view}
 use Rattle.element_state.specs.Changes.{after_changes, committed_by}
 use Rattle.element_state.specs.Chosen.{IsReadBy}
 use Rattle.element_state.specs.Clean.{IsClean}
 use Rattle.element_state.specs.Conditions.{IsShape, IsInUse}
 use Rattle.element_state.specs.Kept.{IsHeaded, IsKeptCase, KeptThroughout}
 use Rattle.element_state.specs.Written.{commit_cost, IsWithin}
-use Rattle.element_laws.specs.Phases.{IsOfPlace, UntouchedLaw, IsAdopted, ContentsLaw, ContentsDoneLaw, IndexLaw}
+use Rattle.element_laws.specs.Phases.{IsAdopted, ContentsLaw, ContentsDoneLaw, IndexLaw}
 use Rattle.element_laws.specs.Phases.{InUseLaw, CarriedLaw, IsContentWritten, IsCarried}
 use Rattle.element_laws.specs.lemmas.Lists.{zip_with}
 use Rattle.element_store.specs.declared.jobs.Job.{Job}
@@ -390,7 +390,7 @@ module _ (told : Bool) (store : Store) (changes : List Change) (now : List Bool)
   -- ---- and how long the text of its index is
 
   listed : (kind : StoreKind) (e : IndexEntry) (f : Entry) → IsEntry 2 kind e → IsHeaded e f
-      → entry_length 2 kind e ≡ listed_length kind f
+      → entry_length 2 kind e ≡ listed_length kind f.name f.len
   listed kind e f rules headed =
       let name = ap (λ (h : List ℕ × Option FileInfo × ℕ × ℕ). length h.0) headed in
       let blocks = rules.blocks ∙ ap (λ (h : List ℕ × Option FileInfo × ℕ × ℕ). blocks_for h.2) headed in
@@ -398,7 +398,7 @@ module _ (told : Bool) (store : Store) (changes : List Change) (now : List Bool)
 
   all_listed : (kind : StoreKind) (es : List IndexEntry) (fs : List Entry) → AllByRecursion (IsEntry 2 kind) es
       → AllZip (λ e f. IsWrittenBy jobs e f ⊎ IsCarriedOver store.index (view_in store) e f) es fs
-      → sum_by (entry_length 2 kind) es ≡ sum_by (listed_length kind) fs
+      → sum_by (entry_length 2 kind) es ≡ sum_by (λ (f : Entry). listed_length kind f.name f.len) fs
   all_listed kind [] [] each pairs = refl
   all_listed kind [] (f ∷ fs) each pairs = absurd pairs
   all_listed kind (e ∷ es) [] each pairs = absurd pairs
@@ -406,8 +406,8 @@ module _ (told : Bool) (store : Store) (changes : List Change) (now : List Bool)
       let headed : IsHeaded e f = ⊎_elim (λ written. written.headed) (λ carried. carried.headed) pairs.0 in
       sum_by-cons (entry_length 2 kind) e es ∙ ap (λ (n : ℕ). n + sum_by (entry_length 2 kind) es)
       (listed kind e f each.0 headed)
-      ∙ ap (λ (n : ℕ). listed_length kind f + n) (all_listed kind es fs each.1 pairs.1)
-      ∙ sym (sum_by-cons (listed_length kind) f fs)
+      ∙ ap (λ (n : ℕ). listed_length kind f.name f.len + n) (all_listed kind es fs each.1 pairs.1)
+      ∙ sym (sum_by-cons (λ (x : Entry). listed_length kind x.name x.len) f fs)
 
   pub commit_length : next.format ≡ 2 → length (index_text next)
       ≡ index_length store.shape.kind (committed_by store.shape (view_in store) changes).entries

@@ -16,11 +16,9 @@ use Rattle.disk_model.specs.lemmas.Places.{outside_no_slot, outside_no_area, slo
 use Rattle.guarded_cell.specs.Register.{Holds, IsKeptAlone, own, other}
 use Rattle.guarded_cell.specs.Stops.{SlotText, IsSlotPiece, KeepStops, FormatStops}
 use Rattle.disk_model.specs.Damage.{IsSoundFor}
-use Rattle.block_files.specs.Aside.{Where}
 use Rattle.block_files.specs.Contents.{counting}
-use Rattle.index_text.specs.declared.entries.Index.{Index}
 use Rattle.index_text.specs.Reading.{header_at, index_of}
-use Rattle.element_state.specs.Clean.{IsNamed, BlockText, IsBlockPiece, Piece, in_slot, in_blocks, IsPiece}
+use Rattle.element_state.specs.Clean.{IsNamed, BlockText, IsBlockPiece, in_slot, in_blocks, IsPiece}
 use Rattle.element_store.specs.Creates.{NamesNothing, IsUntorn}
 use Rattle.element_store.specs.Spelled.{IsContentsCase}
 use Rattle.element_store.proofs.Around.{contents_around}
@@ -175,39 +173,33 @@ module _ (place : Place) (set : List Bool) (old mid : Medium) (before : Elapses 
 
 -- ---- the count of bytes
 
-module _ (copies blocks was kept : ℕ) (first : kept ≤ was + copies * (44 + 44)) where
-  pub most_kept : kept ≤ was + copies * (256 * blocks + 524244 + 5 * 44)
+-- `len` is the length of the index that the contents have, whether or not it is written
+module _ (copies blocks len was kept : ℕ) (first : kept ≤ was + copies * (44 + 44)) where
+  pub most_kept : kept ≤ was + copies * (256 * blocks + len + 5 * 44)
   most_kept =
-      let wider : copies * (44 + 44) ≤ copies * (256 * blocks + 524244 + 5 * 44) =
+      let wider : copies * (44 + 44) ≤ copies * (256 * blocks + len + 5 * 44) =
       mul-le-mul_left copies (omega arith) in
       omega (arith, first, wider)
 
   module _ (put : ℕ) (second : put ≤ kept + copies * (256 * blocks)) where
-    pub most_put : put ≤ was + copies * (256 * blocks + 524244 + 5 * 44)
+    pub most_put : put ≤ was + copies * (256 * blocks + len + 5 * 44)
     most_put =
         let whole : copies * (44 + 44 + 256 * blocks) ≡ copies * (44 + 44) + copies * (256 * blocks) =
         mul-add copies (44 + 44) (256 * blocks) in
-        let wider : copies * (44 + 44 + 256 * blocks) ≤ copies * (256 * blocks + 524244 + 5 * 44) =
+        let wider : copies * (44 + 44 + 256 * blocks) ≤ copies * (256 * blocks + len + 5 * 44) =
         mul-le-mul_left copies (omega arith) in
         omega (arith, first, second, whole, wider)
 
-    module _ (len made : ℕ) (third : made ≤ put + copies * (44 + 44 + (44 + len))) where
-      pub made_written : made ≤ was + copies * (256 * blocks + len + 5 * 44)
-      made_written =
-          let one : copies * (256 * blocks + (44 + 44 + (44 + len)))
-          ≡ copies * (256 * blocks) + copies * (44 + 44 + (44 + len)) =
-          mul-add copies (256 * blocks) (44 + 44 + (44 + len)) in
-          let two : copies * ((44 + 44) + (256 * blocks + (44 + 44 + (44 + len))))
-          ≡ copies * (44 + 44) + copies * (256 * blocks + (44 + 44 + (44 + len))) =
-          mul-add copies (44 + 44) (256 * blocks + (44 + 44 + (44 + len))) in
-          let same : copies * ((44 + 44) + (256 * blocks + (44 + 44 + (44 + len))))
+    module _ (text made : ℕ) (is : text ≡ len) (third : made ≤ put + copies * (44 + 44 + (44 + text))) where
+      pub most_made : made ≤ was + copies * (256 * blocks + len + 5 * 44)
+      most_made =
+          let one : copies * (256 * blocks + (44 + 44 + (44 + text)))
+          ≡ copies * (256 * blocks) + copies * (44 + 44 + (44 + text)) =
+          mul-add copies (256 * blocks) (44 + 44 + (44 + text)) in
+          let two : copies * ((44 + 44) + (256 * blocks + (44 + 44 + (44 + text))))
+          ≡ copies * (44 + 44) + copies * (256 * blocks + (44 + 44 + (44 + text))) =
+          mul-add copies (44 + 44) (256 * blocks + (44 + 44 + (44 + text))) in
+          let same : copies * ((44 + 44) + (256 * blocks + (44 + 44 + (44 + text))))
           ≡ copies * (256 * blocks + len + 5 * 44) =
-          ap (λ (n : ℕ). copies * n) (omega arith) in
+          ap (λ (n : ℕ). copies * n) (omega (arith, is)) in
           omega (arith, first, second, third, one, two, same)
-
-      pub most_made : len ≤ 524244 → made ≤ was + copies * (256 * blocks + 524244 + 5 * 44)
-      most_made short =
-          let wider : copies * (256 * blocks + len + 5 * 44) ≤ copies * (256 * blocks + 524244 + 5 * 44) =
-          mul-le-mul_left copies (omega (arith, short)) in
-          let written = made_written in
-          omega (arith, written, wider)

@@ -31,6 +31,7 @@ pub mod TakenBlocks
 pub mod Prepared
 pub mod RebuiltKept
 mod Standing
+mod Lengths
 mod Room
 mod Finished
 mod ReadStates

@@ -22,14 +22,15 @@ use Rattle.element_store.specs.Stores.{view_in}
 abbrev pub index_in : Store → Index
 index_in store = store.index
 
--- how many bytes an element takes in the text of an index of format 2: 45 for the lengths of its name (1) and content
--- (4), its last change (8) and its hash (32); its info, its name, and 4 for each of its blocks
-abbrev pub listed_length : StoreKind → Entry → ℕ
-listed_length kind f = 45 + info_length kind + length f.name + 4 * blocks_for f.len
+-- how many bytes an element with this name and a content of `len` bytes takes in the text of an index of format 2: 45
+-- for the lengths of its name (1) and content (4), its last change (8) and its hash (32); its info, its name, and 4 for
+-- each of its blocks
+abbrev pub listed_length : StoreKind → (name : List ℕ) → (len : ℕ) → ℕ
+listed_length kind name len = 45 + info_length kind + length name + 4 * blocks_for len
 
 -- how long the text of an index of these elements is in format 2, with the 4 bytes before them
 abbrev pub index_length : StoreKind → List Entry → ℕ
-index_length kind entries = 4 + sum_by (listed_length kind) entries
+index_length kind entries = 4 + sum_by (λ (f : Entry). listed_length kind f.name f.len) entries
 
 -- The next index, the jobs that write its contents, and the set of its blocks and those of the standing index: all in
 -- memory.

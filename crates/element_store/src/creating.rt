@@ -1,12 +1,11 @@
 //! A new storage.
 
-ghost use Rattle.std.specs.Prelude.{◌≡◌, ◌≤◌, ◌+◌, ◌*◌, IsTrue, IfOk, OnOk, IsErrOf, map, length};
+ghost use Rattle.std.specs.Prelude.{◌≡◌, ◌≤◌, ◌+◌, IsTrue, IfOk, OnOk, IsErrOf, map, length};
 ghost use Rattle.std.specs.List.{All};
 ghost use Rattle.per_base.specs.Causes.{Rose};
 ghost use Rattle.disk_model.specs.Damage.{IsSoundFor};
 ghost use Rattle.disk_model.specs.Frame.{Spares, IsSettledOn};
 ghost use Rattle.guarded_cell.specs.Stops.{IsSlotPiece};
-ghost use Rattle.hash_guard.specs.SealedText.{header, max_body};
 ghost use Rattle.index_text.specs.Spelling.{index_text};
 ghost use Rattle.disk_model.specs.Medium.{Quiet, EachCase, Elapses};
 ghost use Rattle.disk_model.specs.Place.{IsOutside};
@@ -15,8 +14,7 @@ ghost use Rattle.element_state.specs.Clean.{IsClean, IsPiece};
 ghost use Rattle.index_text.specs.Contents.{AreContents};
 ghost use Rattle.element_state.specs.Conditions.{IsShape};
 ghost use Rattle.element_store.specs.Committing.{index_in};
-ghost use Rattle.element_store.specs.Creates.{IsUntorn};
-ghost use Rattle.element_store.specs.Plans.{blocks_of_all};
+ghost use Rattle.element_store.specs.Creates.{IsUntorn, creating_cost, fresh_length};
 ghost use Rattle.element_store.specs.Stores.{IsUsed, store_shape, view_in};
 
 use crate::store::Store;
@@ -78,14 +76,12 @@ pub fn create<D: Disk>(
         → EachCase (IsSettledOn (IsOutside shape.place) (D.medium disk.old).image)
         (D.medium disk.old) (D.medium disk.new) }
 
-    // In each copy the contents in whole blocks of 256 bytes, the index with its head, and four blanks as long as that
-    // head; where it failed no more than that, with the longest index there is.
-    ensures written { IfOk result (λ store. (D.medium disk.new).written ≤ (D.medium disk.old).written
-        + shape.place.copies * (256 * blocks_of_all contents.items + length (index_text (index_in store))
-        + 5 * header)) }
-    ensures at_most { (D.medium disk.new).written
-        ≤ (D.medium disk.old).written + shape.place.copies
-        * (256 * blocks_of_all contents.items + max_body + 5 * header) }
+    // The length of the index's text follows from the contents.
+    ensures text { IfOk result (λ store. length (index_text (index_in store))
+        ≡ fresh_length shape.kind contents.items) }
+    // However it ends, no more is written than the contents, that text and the blanks in each copy.
+    ensures at_most { (D.medium disk.new).written ≤ (D.medium disk.old).written
+        + creating_cost shape.place.copies shape.kind contents.items }
     // The clock and the counts of the disk only go on.
     ensures time { Elapses (D.medium disk.old) (D.medium disk.new) }
 {

@@ -7,7 +7,7 @@ use per_run::{WordsError, read_words};
 use per_words::{is_line_word, unknown_in};
 use std::alloc::{AllocError, Global};
 use std::rt::Files;
-use std::{fmt, fs, io, slice};
+use std::{fmt, fs, io};
 use system_model::{Asked, Failure};
 
 /// What is said of invalid arguments.
@@ -215,9 +215,8 @@ fn dashed_folder(alloc: Global, words: &[String]) -> Result<String, AllocError> 
     Ok(String::new(alloc))
 }
 
-/// Whether the word begins with a dash, and is no option.
 fn is_dashed(word: &String) -> bool {
-    word.as_bytes().starts_with(b"-") && unknown_in(slice::from_ref(word)).is_some()
+    word.as_bytes().starts_with(b"-")
 }
 
 /// That the word is none of these arguments, where it can be shown, or where alone it stands.

@@ -69,8 +69,8 @@ impl<'a, R: Print> Read for LinesShown<'a, R> {
     }
 }
 
-/// Runs the session in a folder of its own, which stays, and shows each line with its reply. Gives the status of the
-/// run that ended last.
+/// Runs the session in a folder of its own, which stays where a run began, and shows each line with its reply. Gives
+/// the status of the run that ended last.
 pub(crate) fn show<R: Files<File = File> + AllocGlobal + Env + Print + Screen>(
     rt: &R,
     number: u32,
@@ -103,7 +103,12 @@ fn shown<R: Files<File = File> + AllocGlobal + Env + Print + Screen>(
         let _ = say(rt, rt.alloc(), line);
         return Ok(NO_FOLDER);
     }
-    let status = runs(rt, dir.as_str())?;
+    let ran = runs(rt, dir.as_str());
+    if ran.is_err() {
+        // A folder with files in it stays.
+        let _ = fs::remove_dir(rt, dir.as_str());
+    }
+    let status = ran?;
     // A run that the output failed has said so.
     if status != NO_OUTPUT {
         let word = typed(rt.alloc(), dir.as_str())?;

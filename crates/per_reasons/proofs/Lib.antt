@@ -1,3 +1,5 @@
+mod Json
 mod Results
 mod Ruled
+mod Types
 mod Wrong

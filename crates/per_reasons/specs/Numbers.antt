@@ -13,10 +13,6 @@ type_length text =
 abbrev pub after_minus : List ℕ → List ℕ
 after_minus text = if starts_with nat_eq text (codes "-") then drop 1 text else text
 
--- what stands after the type, and after a minus
-abbrev pub magnitude_in : List ℕ → List ℕ
-magnitude_in text = after_minus (drop (type_length text) text)
-
 -- a digit stands first
 abbrev pub begins_with_digit : List ℕ → Bool
 begins_with_digit [] = false
@@ -26,9 +22,6 @@ begins_with_digit (byte ∷ rest) = is_ascii_digit byte
 abbrev pub leads_with_zero : List ℕ → Bool
 leads_with_zero [] = false
 leads_with_zero (digit ∷ rest) = nat_eq digit 48 && begins_with_digit rest
-
-abbrev pub has_leading_zero : List ℕ → Bool
-has_leading_zero text = leads_with_zero (magnitude_in text)
 
 -- which numbers the type has with which the text begins
 abbrev pub bounds_text : List ℕ → List ℕ
@@ -42,13 +35,17 @@ bounds_text text =
     if starts_with nat_eq text (codes "i32:") then codes "one of i32:-2147483648 to i32:2147483647" else
     codes "one of i64:-9223372036854775808 to i64:9223372036854775807"))))))
 
+-- how a number is spelled in the place of this text, or else what is needed: one within its bounds is refused for a
+-- plus, for leading zeros, or for a minus before zero
+abbrev pub needed_digits : (text needed : List ℕ) → List ℕ
+needed_digits text needed =
+    if starts_with nat_eq text (codes "+") then codes "a number without a plus" else (
+    if leads_with_zero (after_minus text) then codes "a number without leading zeros" else (
+    if starts_with nat_eq text (codes "-0") then codes "a zero without a minus" else needed))
+
 -- a number in the place of this text, which begins with a type: one of that type, and spelled as one
 abbrev pub needed_number : List ℕ → List ℕ
-needed_number text = if has_leading_zero text then codes "a number without leading zeros" else bounds_text text
-
--- digits in the place of this text, where a number has this need
-abbrev pub needed_digits : (text needed : List ℕ) → List ℕ
-needed_digits text needed = if leads_with_zero text then codes "a number without leading zeros" else needed
+needed_number text = needed_digits (drop (type_length text) text) (bounds_text text)
 
 -- a value in the place of this text, with its bound where the text may spell a longer one: at most 8 bytes encode 6 of
 -- a text, and a quoted text of no escapes has 7 around it

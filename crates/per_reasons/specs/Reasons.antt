@@ -10,8 +10,7 @@ use Rattle.per_words.specs.declared.flaws.Flaw.{Flaw}
 use Rattle.per_words.specs.declared.needs.Needed.{Needed}
 use Rattle.per_words.specs.declared.needs.Needed.TheVariants as needed
 use Rattle.per_words.specs.Numbers.{leading_number}
-use Rattle.per_reasons.specs.Numbers.{after_minus, needed_digits, needed_number, needed_value}
-use Rattle.per_reasons.specs.Rules.{rule_text}
+use Rattle.per_reasons.specs.Numbers.{needed_digits, needed_number, needed_value}
 
 -- ---- a text that is no line
 
@@ -20,7 +19,7 @@ abbrev pub needed_text : Needed → (text : List ℕ) → Option (List ℕ)
 needed_text needed.Application text = Some (codes "an application, 0 to 7, or now or end")
 needed_text needed.CallWord text = Some (codes "the word of a call")
 needed_text needed.Name text = Some (codes "a name of 1 to 255 ASCII letters, digits, _, -, . or /")
-needed_text needed.Handle text = Some (needed_digits text (codes "the number of a handle"))
+needed_text needed.Handle text = Some (needed_digits text (codes "the number of a handle, 0 to 4294967295"))
 needed_text needed.Number text = Some (needed_digits text (codes "a number from 0 to 18446744073709551615"))
 needed_text needed.TypeText text = Some (codes "a type, as u8")
 needed_text needed.ValueText text = Some (needed_value text)
@@ -32,8 +31,8 @@ needed_text needed.OpenKind text = Some (codes "r, w or rw")
 needed_text needed.OpenMode text =
     Some (codes "none, or some of begin, end, truncate, append in this order, joined by +")
 needed_text needed.Origin text = Some (codes "begin, current or end")
-needed_text needed.Offset text = Some (needed_digits (after_minus text)
-    (codes "a number from -9223372036854775808 to 9223372036854775807, as 1 or -1"))
+needed_text needed.Offset text =
+    Some (needed_digits text (codes "a number from -9223372036854775808 to 9223372036854775807"))
 needed_text needed.End text = None
 
 -- what is said of a line that ends with a carriage return
@@ -107,32 +106,3 @@ manifest_of_line line =
 -- the answer to a bad line, and where the line stops being one
 abbrev pub explained_text : (answer line : List ℕ) → Option (List ℕ)
 explained_text answer line = option_map (λ why. answer ++ (codes ": " ++ why)) (no_line_text line)
-
--- the part of a manifest in which it breaks a rule, where it is known
-abbrev pub place_text : Option (List ℕ) → List ℕ
-place_text None = []
-place_text (Some part) = codes " in " ++ part
-
--- what is wrong with the text of an initial value, where it is known
-abbrev pub initial_text : Option (List ℕ) → List ℕ
-initial_text None = []
-initial_text (Some why) = codes "; " ++ why
-
--- which byte shows that it is no JSON, or what is wrong with an initial value, where the rule is this
-abbrev pub end_text : (rule byte : ℕ) → (why : Option (List ℕ)) → List ℕ
-end_text rule byte why =
-    if nat_eq rule 2 then codes ", which its byte " ++ (decimal byte ++ codes " shows") else (
-    if nat_eq rule 22 then initial_text why else [])
-
--- the text names the rule that a manifest breaks, perhaps a part of it, and what the rule says
-pub record IsRuleText (rule : ℕ) (text : List ℕ) : Type 0 where
-  pub part : Option (List ℕ)
-  pub byte : ℕ
-  pub why : Option (List ℕ)
-  pub spelled : text ≡ codes "the manifest breaks rule "
-      ++ (decimal rule ++ (place_text part ++ (rule_text rule ++ end_text rule byte why)))
-
--- there is such a text
-abbrev pub NamesRule : ℕ → Option (List ℕ) → Type 0
-NamesRule rule None = ⊥
-NamesRule rule (Some text) = IsRuleText rule text

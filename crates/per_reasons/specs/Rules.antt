@@ -1,5 +1,7 @@
--- What a manifest breaks, by the number of the rule.
-use Rattle.std.specs.Prelude.{ℕ, List, [], codes, nat_eq, if◌then◌else◌}
+-- What is said of a manifest that breaks a rule.
+use Rattle.std.specs.Prelude.{◌≡◌, ℕ, List, [], ◌++◌, codes, nat_eq, if◌then◌else◌, Option, Some, None}
+use Rattle.std.specs.Fmt.{decimal}
+use Rattle.per_reasons.specs.Initials.{SaysInitial}
 
 -- what the rule of this number forbids, as a refusal says it
 abbrev pub rule_text : ℕ → List ℕ
@@ -34,3 +36,34 @@ rule_text rule =
     codes ": updateStrategy is none of keepExisting, overwrite and delete, or overwrite has no initial" else (
     if nat_eq rule 24 then
     codes ": up to it the initial contents are more than maximumAllowedSize" else [])))))))))))))))))))))))
+
+-- the part of a manifest in which it breaks a rule, where it is known
+abbrev pub place_text : Option (List ℕ) → List ℕ
+place_text None = []
+place_text (Some part) = codes " in " ++ part
+
+-- what is wrong with the text of an initial value, where that is said
+abbrev pub initial_text : Option (List ℕ) → List ℕ
+initial_text None = []
+initial_text (Some why) = codes "; " ++ why
+
+-- which byte shows that it is no JSON, or what is wrong with an initial value, where the rule is this
+abbrev pub end_text : (rule byte : ℕ) → (why : Option (List ℕ)) → List ℕ
+end_text rule byte why =
+    if nat_eq rule 2 then codes ", which its byte " ++ (decimal byte ++ codes " shows") else (
+    if nat_eq rule 22 then initial_text why else [])
+
+-- the text names the rule that a manifest breaks, perhaps a part of it, and what the rule says; where that is the rule
+-- of initial contents, also what is wrong with the initial value of the first key that breaks it
+pub record IsRuleText (rule : ℕ) (manifest text : List ℕ) : Type 0 where
+  pub part : Option (List ℕ)
+  pub byte : ℕ
+  pub why : Option (List ℕ)
+  pub said : rule ≡ 22 → SaysInitial manifest why
+  pub spelled : text ≡ codes "the manifest breaks rule "
+      ++ (decimal rule ++ (place_text part ++ (rule_text rule ++ end_text rule byte why)))
+
+-- there is such a text
+abbrev pub NamesRule : (rule : ℕ) → (manifest : List ℕ) → Option (List ℕ) → Type 0
+NamesRule rule manifest None = ⊥
+NamesRule rule manifest (Some text) = IsRuleText rule manifest text

@@ -1,15 +1,11 @@
 //! Which part of a manifest breaks a rule. No clause says that: parts of the manifest are tried as it is read, and what
 //! is named is tested for each rule.
 
-use crate::lines::why_no_value;
-use crate::rules::OF_INITIALS;
+use crate::json::things;
 use manifest::{ManifestError, read_manifest};
 use per_base::Name;
 use serde_json::Value;
 use std::alloc::{AllocError, Global};
-
-/// The place of the storages of keys in the lists.
-const KEYS: usize = 0;
 
 /// The first rule on single elements.
 const FIRST_OF_ELEMENTS: u32 = 19;
@@ -50,28 +46,6 @@ pub(crate) fn blamed(
     }
 }
 
-/// What is wrong with the text of an initial value by which a manifest breaks the rule of initial contents, in words;
-/// nothing for another rule, a content, or a value of another type.
-pub(crate) fn why_initial(
-    alloc: Global,
-    manifest: &[u8],
-    rule: u32,
-) -> Result<Option<String>, AllocError> {
-    let manifest = match Value::from_slice(alloc, manifest) {
-        Ok(manifest) if rule == OF_INITIALS => manifest,
-        _ => return Ok(None),
-    };
-    let rejected = Rejected {
-        alloc,
-        manifest: &manifest,
-        rule,
-    };
-    match rejected.first_storage()? {
-        Some((KEYS, place, storage)) => rejected.why_value(place, storage),
-        _ => Ok(None),
-    }
-}
-
 impl<'a> Rejected<'a> {
     /// The storage up to which the rule is broken, with its list and its place there.
     fn first_storage(&self) -> Result<Option<(usize, usize, &'a Value)>, AllocError> {
@@ -85,17 +59,6 @@ impl<'a> Rejected<'a> {
             }
         }
         Ok(None)
-    }
-
-    /// What is wrong with the initial value of the key, up to which the rule is broken in this storage.
-    fn why_value(&self, place: usize, storage: &Value) -> Result<Option<String>, AllocError> {
-        let keys = things(storage, LISTS[KEYS].1);
-        let at = self.first_element(KEYS, place, keys.len())?;
-        let initial = keys.get(at).and_then(|key| key.get("initial"));
-        match initial.and_then(Value::as_str) {
-            Some(text) => why_no_value(self.alloc, text.as_bytes()),
-            None => Ok(None),
-        }
     }
 
     /// Whether the manifest up to this number of elements of a storage breaks the rule.
@@ -242,14 +205,6 @@ impl<'a> Rejected<'a> {
                 text.push_str(place.as_str())
             }
         }
-    }
-}
-
-/// The list that the value has under this word.
-pub(crate) fn things<'a>(value: &'a Value, word: &str) -> &'a [Value] {
-    match value.get(word).and_then(Value::as_array) {
-        Some(list) => list.as_slice(),
-        None => &[],
     }
 }
 

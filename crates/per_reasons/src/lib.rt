@@ -9,6 +9,8 @@
 
 mod blame;
 mod dumps;
+mod initials;
+mod json;
 mod lines;
 mod parts;
 mod refusals;

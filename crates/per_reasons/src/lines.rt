@@ -1,13 +1,13 @@
 //! Where a text stops being a line, in words.
 
-ghost use Rattle.std.specs.Prelude.{◌≡◌, ◌-◌, IfOk, drop, option_map, string_bytes};
+ghost use Rattle.std.specs.Prelude.{◌≡◌, ◌-◌, IfOk, Some, drop, option_map, string_bytes};
 ghost use Rattle.value_text.specs.Readers.{Finds};
 ghost use Rattle.per_words.specs.Flaws.{flaw_in};
 ghost use Rattle.per_reasons.specs.Reasons.{IsNeededText, IsWordText, SaysNoCall, column_text, ending_text};
 ghost use Rattle.per_reasons.specs.Reasons.{needed_text, no_line_text, wrong_part};
-ghost use Rattle.per_reasons.specs.Numbers.{after_minus, begins_with_digit, bounds_text, has_leading_zero};
-ghost use Rattle.per_reasons.specs.Numbers.{leads_with_zero, magnitude_in, needed_digits, needed_number, needed_value};
-ghost use Rattle.per_reasons.specs.Numbers.{type_length};
+ghost use Rattle.per_reasons.specs.Initials.{SaysNoValue};
+ghost use Rattle.per_reasons.specs.Numbers.{after_minus, begins_with_digit, bounds_text, leads_with_zero};
+ghost use Rattle.per_reasons.specs.Numbers.{needed_digits, needed_number, needed_value, type_length};
 
 use crate::words::{dots_after, word_shown};
 use per_words::{Needed, flaw_in, leading_number};
@@ -91,7 +91,9 @@ pub fn why_no_call(alloc: Global, line: &[u8]) -> Result<Option<String>, AllocEr
 }
 
 /// Why a text is that of no value, in words, as [`why_no_call`] says it of a call with this value.
-pub(crate) fn why_no_value(alloc: Global, text: &[u8]) -> Result<Option<String>, AllocError> {
+pub(crate) fn why_no_value(alloc: Global, text: &[u8]) -> Result<Option<String>, AllocError>
+    ensures { IfOk result (λ why. SaysNoValue (Some text.now) (option_map string_bytes why)) }
+{
     let mut line = Vec::from_slice(alloc, b"0 set k a ")?;
     line.extend_from_slice(text)?;
     why_no_call(alloc, line.as_slice())
@@ -138,7 +140,7 @@ fn needed_text(needed: Needed, text: &[u8]) -> Option<&'static str>
         Needed::Application => Some("an application, 0 to 7, or now or end"),
         Needed::CallWord => Some("the word of a call"),
         Needed::Name => Some("a name of 1 to 255 ASCII letters, digits, _, -, . or /"),
-        Needed::Handle => Some(needed_digits(text, "the number of a handle")),
+        Needed::Handle => Some(needed_digits(text, "the number of a handle, 0 to 4294967295")),
         Needed::Number => Some(needed_digits(text, "a number from 0 to 18446744073709551615")),
         Needed::TypeText => Some("a type, as u8"),
         Needed::ValueText => Some(needed_value(text)),
@@ -152,19 +154,24 @@ fn needed_text(needed: Needed, text: &[u8]) -> Option<&'static str>
         ),
         Needed::Origin => Some("begin, current or end"),
         Needed::Offset => Some(needed_digits(
-            after_minus(text),
-            "a number from -9223372036854775808 to 9223372036854775807, as 1 or -1",
+            text,
+            "a number from -9223372036854775808 to 9223372036854775807",
         )),
         Needed::End => None,
     }
 }
 
-/// Digits in the place of this text, where a number has this need.
+/// How a number is spelled in the place of this text, or else what is needed: one within its bounds is refused for a
+/// plus, for leading zeros, or for a minus before zero.
 fn needed_digits(text: &[u8], needed: &'static str) -> &'static str
     ensures { result.now ≡ needed_digits text.now needed.now }
 {
-    if leads_with_zero(text) {
+    if text.starts_with(b"+") {
+        "a number without a plus"
+    } else if leads_with_zero(after_minus(text)) {
         "a number without leading zeros"
+    } else if text.starts_with(b"-0") {
+        "a zero without a minus"
     } else {
         needed
     }
@@ -187,18 +194,8 @@ fn needed_value(text: &[u8]) -> &'static str
 fn needed_number(text: &[u8]) -> &'static str
     ensures { result.now ≡ needed_number text.now }
 {
-    if has_leading_zero(text) {
-        "a number without leading zeros"
-    } else {
-        bounds_text(text)
-    }
-}
-
-/// Whether a number that has a type has a zero before another digit.
-fn has_leading_zero(text: &[u8]) -> bool
-    ensures { result ≡ has_leading_zero text.now }
-{
-    leads_with_zero(magnitude_in(text))
+    let digits = text.get(type_length(text)..).unwrap_or(&[]);
+    needed_digits(digits, bounds_text(text))
 }
 
 /// Whether a zero stands first, before another digit.
@@ -218,13 +215,6 @@ fn begins_with_digit(text: &[u8]) -> bool
         Some(byte) => byte.is_ascii_digit(),
         None => false,
     }
-}
-
-/// What stands after the type of a number, and after its minus, where it has one.
-fn magnitude_in(text: &[u8]) -> &[u8]
-    ensures { result.now ≡ magnitude_in text.now }
-{
-    after_minus(text.get(type_length(text)..).unwrap_or(&[]))
 }
 
 /// What stands after a minus, where there is one.

@@ -8,7 +8,8 @@ ghost use Rattle.value_text.specs.Readers.{Finds, literal_at};
 ghost use Rattle.per_words.specs.Flaws.{after_space, leading_word};
 ghost use Rattle.per_reasons.specs.Parts.{Carries, NamesKey, NamesPart, NamesStorage};
 
-use crate::blame::{LISTS, things};
+use crate::blame::LISTS;
+use crate::json::things;
 use crate::refusals::manifest_of_line;
 use crate::words::split;
 use deployment_model::{CollectionStrategy, ElementConfig, ElementStrategy, StorageConfig};

@@ -6,7 +6,8 @@ ghost use Rattle.std.specs.Fmt.{decimal};
 ghost use Rattle.std.specs.List.{starts_with};
 ghost use Rattle.std.specs.Str.{IsUtf8, bytes_eq};
 ghost use Rattle.per_words.specs.Flaws.{takes_text};
-ghost use Rattle.per_reasons.specs.Reasons.{NamesRule, explained_text, manifest_of_line};
+ghost use Rattle.per_reasons.specs.Reasons.{explained_text, manifest_of_line};
+ghost use Rattle.per_reasons.specs.Rules.{NamesRule};
 
 use crate::lines::why_no_line;
 use crate::rules::why_rejected;
@@ -26,7 +27,7 @@ pub fn why_refused(alloc: Global, answer: &[u8], line: &[u8]) -> Result<Option<S
         → option_map string_bytes why ≡ explained_text answer.now line.now) }
     ensures rejected { IfOk result (λ why. (rule : ℕ) → rule < 2 ^ 32
         → answer.now ≡ codes "error 22 ManifestRejected " ++ decimal rule
-        → IfSome (manifest_of_line line.now) (λ _. NamesRule rule (option_map string_bytes why))) }
+        → IfSome (manifest_of_line line.now) (λ manifest. NamesRule rule manifest (option_map string_bytes why))) }
 {
     if answer.starts_with(b"bad-line ") {
         return why_bad(alloc, answer, line);
@@ -55,7 +56,7 @@ fn why_bad(alloc: Global, answer: &[u8], line: &[u8]) -> Result<Option<String>, 
 fn why_unfit(alloc: Global, answer: &[u8], manifest: &[u8]) -> Result<Option<String>, AllocError>
     ensures { IfOk result (λ why. (rule : ℕ) → rule < 2 ^ 32
         → answer.now ≡ codes "error 22 ManifestRejected " ++ decimal rule
-        → NamesRule rule (option_map string_bytes why)) }
+        → NamesRule rule manifest.now (option_map string_bytes why)) }
 {
     if let Some(digits) = answer.strip_prefix(b"error 22 ManifestRejected ") {
         return match parse_unsigned(u32::MAX as u64, digits) {

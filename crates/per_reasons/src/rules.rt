@@ -1,30 +1,27 @@
 //! Which rule a manifest breaks, in words.
 
 ghost use Rattle.std.specs.Prelude.{◌≡◌, IfOk, option_map, string_bytes};
-ghost use Rattle.per_reasons.specs.Reasons.{IsRuleText, end_text, initial_text, place_text};
-ghost use Rattle.per_reasons.specs.Rules.{rule_text};
+ghost use Rattle.per_reasons.specs.Initials.{SaysInitial};
+ghost use Rattle.per_reasons.specs.Rules.{IsRuleText, end_text, initial_text, place_text, rule_text};
 
-use crate::blame::{blamed, end_of_json, why_initial};
+use crate::blame::{blamed, end_of_json};
+use crate::initials::why_initial;
 use std::alloc::{AllocError, Global};
 
 /// The rule that a manifest is JSON.
 const IS_JSON: u32 = 2;
 
 /// The rule of initial contents.
-pub(crate) const OF_INITIALS: u32 = 22;
+const OF_INITIALS: u32 = 22;
 
 /// Which rule a manifest breaks, where, and what the rule says.
 pub(crate) fn why_rejected(alloc: Global, rule: u32, manifest: &[u8]) -> Result<String, AllocError>
-    ensures { IfOk result (λ text. IsRuleText rule (string_bytes text)) }
+    ensures { IfOk result (λ text. IsRuleText rule manifest.now (string_bytes text)) }
 {
     let place = place_text(alloc, blamed(alloc, manifest, rule)?)?;
     let broken = rule_text(rule);
-    let end = end_text(
-        alloc,
-        rule,
-        end_of_json(alloc, manifest),
-        why_initial(alloc, manifest, rule)?,
-    )?;
+    let why = wrong_initial(alloc, rule, manifest)?;
+    let end = end_text(alloc, rule, end_of_json(alloc, manifest), why)?;
     format!(in alloc; "the manifest breaks rule {rule}{place}{broken}{end}")
 }
 
@@ -56,7 +53,18 @@ fn end_text(
     }
 }
 
-/// What is wrong with an initial value, where it is known.
+/// What is wrong with an initial value, where the rule is that of initial contents.
+fn wrong_initial(alloc: Global, rule: u32, manifest: &[u8]) -> Result<Option<String>, AllocError>
+    ensures { IfOk result (λ why. rule ≡ 22 → SaysInitial manifest.now (option_map string_bytes why)) }
+{
+    if rule == OF_INITIALS {
+        why_initial(alloc, manifest)
+    } else {
+        Ok(None)
+    }
+}
+
+/// What is wrong with an initial value, where that is said.
 fn initial_text(alloc: Global, why: Option<String>) -> Result<String, AllocError>
     ensures { IfOk result (λ text. string_bytes text ≡ initial_text (option_map string_bytes why)) }
 {

@@ -51,6 +51,7 @@ unbegun told m lawful = record {
   at_exit = inl (reads_none lawful);
   roots = λ f is. refl;
   written = omega arith;
+  already = λ are. refl;
 }
 
 -- nothing was taken and nothing written
@@ -91,10 +92,10 @@ run_none laws told converters status left taken source_failures sink_failures ol
 
 pub run_short : AppLaws → (told : Bool) (converters : Converters) (status : ℕ) (left taken : Option (List ℕ))
     (source_failures sink_failures : ℕ) (old new : Medium) → IsLawful told new → Elapses old new
-    → (IsTrue told → StartKeeps old new) → status ≡ 4
+    → (IsTrue told → StartKeeps old new) → status ≡ 4 → new.faults ≡ old.faults
     → Run told converters status (still left taken source_failures sink_failures old)
     (still left taken source_failures sink_failures new)
-run_short laws told converters status left taken source_failures sink_failures old new lawful time keeps is = record {
+run_short laws told converters status left taken source_failures sink_failures old new lawful time keeps is fed = record {
   ending = endings.start_memory;
   status_is = is;
   given = [];
@@ -107,7 +108,7 @@ run_short laws told converters status left taken source_failures sink_failures o
   turns = [];
   gives = refl;
   ends = record { no_line = refl; no_turn = refl; wrote = Appends-nil taken };
-  cause = tt;
+  cause = fed;
   failures = record { last = old.faults; blamed = refl; later = time.faults; passes = λ over. absurd over };
   time = time;
   disk = λ tells. start_disk laws converters.rules converters.answers endings.start_memory taken taken told old new lawful

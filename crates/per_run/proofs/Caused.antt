@@ -109,7 +109,7 @@ serve_caused of_disk converters status before after (served start prepared s) =
 serve_caused of_disk converters status before after (unprepared nothing (inl failed) left_same same) =
     by_disk failed.0 failed.1
 serve_caused of_disk converters status before after (unprepared nothing (inr four) left_same same) =
-    by_itself (among status 4 (statuses_of Serve) four (1, omega arith, refl))
+    by_itself (among status 4 (statuses_of Serve) four.0 (1, omega arith, refl))
 
 -- a job that writes once
 pub written_caused : (kind : JobKind) (status : ℕ) (b n : FailureCounts) → statuses_of kind ≡ 0 ∷ 4 ∷ []
@@ -275,16 +275,16 @@ pub done_none : {D : Type 0} → AppLaws → (of_disk : DiskOf D) (kind : JobKin
 done_none laws of_disk Run converters at lawful =
     run_short laws of_disk.told converters 4 at.left at.taken at.source_failures at.sink_failures
     (of_disk.medium at.disk) (of_disk.medium at.disk) lawful (elapses_none lawful)
-    (λ tells. unbegun of_disk.told (of_disk.medium at.disk) lawful) refl
+    (λ tells. unbegun of_disk.told (of_disk.medium at.disk) lawful) refl refl
 done_none laws of_disk Serve converters at lawful =
     serves_short laws of_disk converters at.left at.taken at.source_failures at.sink_failures at.disk at.disk lawful
-    (elapses_none lawful) (inr (inr (reads_none lawful)))
+    (elapses_none lawful) (inr (inr (reads_none lawful))) refl
 done_none laws of_disk Format converters at lawful =
     formats_none of_disk.told 4 at.taken (of_disk.medium at.disk) (of_disk.medium at.disk) (inr refl)
     (λ tells file is. refl) (omega arith) (λ unfailed. refl)
 done_none laws of_disk (Generate n) converters at lawful =
     generates_none of_disk.told converters n 4 at.taken (of_disk.medium at.disk) (of_disk.medium at.disk) (inr refl)
-    (elapses_none lawful).faults (λ tells. formats_still (of_disk.medium at.disk))
+    (elapses_none lawful).faults (λ unfailed. refl) (λ tells. formats_still (of_disk.medium at.disk))
 done_none laws of_disk Audit converters at lawful =
     audits_none of_disk.told 4 at.taken (of_disk.medium at.disk) (of_disk.medium at.disk) (inr refl)
     (looks_none lawful) (λ unfailed. refl)

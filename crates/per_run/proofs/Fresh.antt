@@ -6,12 +6,10 @@ use Rattle.disk_model.specs.Image.{Image}
 use Rattle.disk_model.specs.Medium.{Medium, OnlyReads}
 use Rattle.migrate_fns.specs.Rules.{Rule, Answers}
 use Rattle.command_text.specs.Generated.{generated}
-use Rattle.deploy_laws.specs.Apps.{App, absent, app_at, says_at}
-use Rattle.deploy_rows.specs.Costs.{format_cost, manifests_at, root_cost}
-use Rattle.deploy_rows.specs.Laws.{NoManifestsLaw}
+use Rattle.deploy_laws.specs.Apps.{App, app_at}
+use Rattle.deploy_rows.specs.Costs.{format_cost}
 use Rattle.deploy_rows.specs.Rows.{empty_app}
 use Rattle.run_model.specs.Bounds.{AreBounded, bytes_after}
-use Rattle.run_model.specs.Costs.{roots_cost}
 use Rattle.run_model.specs.Edges.{Converters}
 use Rattle.run_model.specs.Endings as endings
 use Rattle.run_model.specs.Endings.{AfterSome, InReply}
@@ -22,6 +20,7 @@ use Rattle.run_model.specs.Runs.{DiskSide, Handling, IsSettled, Progress, Reach,
 use Rattle.run_model.specs.Runtimes.{IsNoRoot, Memory}
 use Rattle.run_model.specs.Turns.{AreBlamed, DiskBytes, Follow, Turn, bytes_now, replies_of, worlds_of}
 use Rattle.run_model.specs.Worlds.{Application, Disks, World, after_start, all_resting, formatted, resting, world_at}
+use Rattle.run_model.specs.Writes.{AreWholeRoots}
 use Rattle.per_run.specs.declared.tally.Tally.{Tally}
 use Rattle.per_run.specs.Jobs.{BeginWith, FailsAtThree, Formats, Generates, IsLeftBy, WritesOutput, outputs}
 use Rattle.per_run.specs.Jobs.{summary}
@@ -46,34 +45,7 @@ unfolding world_at
 is_formatted image each = ap (λ (apps : List Application). record formatted { apps = apps })
     (resting_all (app_at image) (empty_app 1) 0 8 (λ i least most. each i most))
 
-says_none : (image : Image) (app : ℕ) → app_at image app ≡ empty_app 1 → says_at image app ≡ absent 1
-unfolding app_at
-says_none image app is = ap (λ (a : App). a.says) is
-
--- its roots keep no manifest
-bare_root : NoManifestsLaw → (image : Image) (app : ℕ) → app_at image app ≡ empty_app 1
-    → root_cost (manifests_at image app) ≡ root_cost []
-bare_root law image app is = ap root_cost (law image app 1 (says_none image app is))
-
-pub bare_roots : NoManifestsLaw → (image : Image) → ((app : ℕ) → app < 8 → app_at image app ≡ empty_app 1)
-    → roots_cost image 8 ≡ 8 * root_cost []
-bare_roots law image each =
-    let a0 = bare_root law image 0 (each 0 (omega arith)) in
-    let a1 = bare_root law image 1 (each 1 (omega arith)) in
-    let a2 = bare_root law image 2 (each 2 (omega arith)) in
-    let a3 = bare_root law image 3 (each 3 (omega arith)) in
-    let a4 = bare_root law image 4 (each 4 (omega arith)) in
-    let a5 = bare_root law image 5 (each 5 (omega arith)) in
-    let a6 = bare_root law image 6 (each 6 (omega arith)) in
-    let a7 = bare_root law image 7 (each 7 (omega arith)) in
-    omega (arith, a0, a1, a2, a3, a4, a5, a6, a7)
-
 -- ---- the formatting and the start
-
--- what they cost
-within : (image : Image) (was mid now : ℕ) → roots_cost image 8 ≡ 8 * root_cost [] → mid ≤ was + 8 * format_cost
-    → now ≤ mid + roots_cost image 8 → now ≤ was + (8 * format_cost + 8 * root_cost [])
-within image was mid now bare formats starts = omega (arith, bare, formats, starts)
 
 pub spares_on : {spared : ℕ → Type 0} {a b c : Image} → Spares spared a b → Spares spared b c → Spares spared a c
 spares_on first later file is = later file is ∙ first file is
@@ -87,14 +59,16 @@ pub formats_short : (old new : Medium) → Spares IsNoRoot old.image new.image
     → new.written ≤ old.written + 8 * format_cost → FormatsWithin (bytes_now old) (bytes_now new)
 formats_short old new roots written = record { roots = roots; written = omega (arith, written) }
 
--- one that did, and the start after it
+-- one that did, and the start after it, which writes nothing
 pub formats_on : (old middle : Medium) (new : DiskBytes) → Spares IsNoRoot old.image middle.image
-    → middle.written ≤ old.written + 8 * format_cost → roots_cost middle.image 8 ≡ 8 * root_cost []
-    → Spares IsNoRoot middle.image new.image → new.written ≤ middle.written + roots_cost middle.image 8
+    → middle.written ≤ old.written + 8 * format_cost → AreWholeRoots middle.image
+    → Spares IsNoRoot middle.image new.image → (AreWholeRoots middle.image → new ≡ bytes_now middle)
     → FormatsWithin (bytes_now old) new
-formats_on old middle new roots written bare started costs = record {
+formats_on old middle new roots written whole started already = record {
   roots = spares_on roots started;
-  written = within middle.image old.written middle.written new.written bare written costs;
+  written =
+      let same : new.written ≡ middle.written = ap (λ (b : DiskBytes). b.written) (already whole) in
+      omega (arith, written, same);
 }
 
 -- one that was looked for first
@@ -104,7 +78,7 @@ formats_later old middle new reads formats = record {
   roots = λ file is. formats.roots file is ∙ ap (λ (i : Image). i file) reads.image;
   written =
       let same : middle.written ≡ old.written = reads.written in
-      let cost : new.written ≤ middle.written + (8 * format_cost + 8 * root_cost []) = formats.written in
+      let cost : new.written ≤ middle.written + 8 * format_cost = formats.written in
       omega (arith, same, cost);
 }
 
@@ -141,9 +115,9 @@ not_begun (inr four) begun = begun
 -- the formatting or the start did not end
 pub generates_none : (told : Bool) (converters : Converters) (n status : ℕ) (now : Option (List ℕ))
     (old new : Medium) → (status ≡ 3) ⊎ (status ≡ 4) → old.faults ≤ new.faults
-    → (IsTrue told → FormatsWithin (bytes_now old) (bytes_now new))
+    → FailsAtThree status old.faults new.faults → (IsTrue told → FormatsWithin (bytes_now old) (bytes_now new))
     → Generates told converters n status (outputs now old) (outputs now new)
-generates_none told converters n status now old new is later formats = record {
+generates_none told converters n status now old new is later failed formats = record {
   ending = stopped_so is;
   status_is = stopped_by is;
   lines = [];
@@ -167,7 +141,7 @@ generates_none told converters n status now old new is later formats = record {
     left = inl refl;
   };
   settled = λ tells done. absurd (not_done status is done);
-  unbegun = λ open_end. (refl, formats);
+  unbegun = λ open_end. (refl, failed, formats);
   clean = λ tells begun. absurd (not_begun is begun);
 }
 
@@ -236,8 +210,8 @@ generates_short told rules answers n now memory old middle begun new b course = 
       (side tells).follow;
   bounded = λ tells. record {
     begun = (side tells).begun;
-    starts = formats_on old middle (side tells).begun (b.roots tells) b.written (b.bare tells)
-        (side tells).starts.roots (side tells).starts.written;
+    starts = formats_on old middle (side tells).begun (b.roots tells) b.written (b.whole tells)
+        (side tells).starts.roots (side tells).starts.already;
     bounded = subst (λ (w : World). AreBounded rules answers w (side tells).begun course.turns) (here tells)
         (side tells).bounded;
     held = λ done. absurd (not_done 4 (inr refl) done);
@@ -302,8 +276,8 @@ generates_all told rules answers n status before now memory after tally old midd
       bounded = λ tells.
           let g : IsGoing rules answers middle counted.turns after new = counted.goes.disk tells in record {
             begun = g.2.begun;
-            starts = formats_on old middle g.2.begun (b.roots tells) b.written (b.bare tells) g.2.starts.roots
-                g.2.starts.written;
+            starts = formats_on old middle g.2.begun (b.roots tells) b.written (b.whole tells) g.2.starts.roots
+                g.2.starts.already;
             bounded = subst (λ (w : World). AreBounded rules answers w g.2.begun counted.turns) (here tells) g.2.bounded;
             held = λ done. g.2.held;
             left = inl g.2.held;

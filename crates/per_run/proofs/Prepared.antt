@@ -19,7 +19,10 @@ use Rattle.run_model.specs.Endings.{HasCauseOf, HasStarted, ending_status}
 use Rattle.run_model.specs.Moments.{Between}
 use Rattle.run_model.specs.RunLaws.{start_disk}
 use Rattle.run_model.specs.Runtimes.{Memory, StartKeeps, Starts}
+use Rattle.run_model.specs.Turns.{bytes_now}
 use Rattle.run_model.specs.Worlds.{after_start, disks, world_at}
+use Rattle.run_model.specs.WriteLaws.{unchanged}
+use Rattle.run_model.specs.Writes.{AreWholeRoots}
 use Rattle.per_runtime.specs.Memories.{memory_of}
 use Rattle.per_runtime.specs.declared.runtime.Runtime.{Runtime}
 use Rattle.per_run.specs.declared.endings.Ending.{Ending as Way}
@@ -88,6 +91,8 @@ keeps_on {a} {b} {c} first reads later keeps = record {
       let cost : c.written ≤ b.written + roots_cost a.image 8 =
       subst (λ (i : Image). c.written ≤ b.written + roots_cost i 8) reads.image keeps.written in
       omega (arith, same, cost);
+  already = λ are. keeps.already (subst (λ (i : Image). AreWholeRoots i) (sym reads.image) are)
+      ∙ unchanged (bytes_now a) (bytes_now b) reads.image reads.written;
 }
 
 pub starts_on : {a b c : Medium} (memory : Memory) → Elapses a b → OnlyReads a b → Elapses b c → Starts memory b c
@@ -116,7 +121,7 @@ readied_first told medium (Ok x) old mid new blank first reads same begun = reco
     passes = begun.1.passes ∙ same;
     roots = λ tells file is. begun.1.roots tells file is ∙ ap (λ (i : Image). i file) reads.image;
     written = let formats = begun.1.written in let nothing = reads.written in omega (arith, formats, nothing);
-    bare = begun.1.bare;
+    whole = begun.1.whole;
     time = elapses_on first begun.1.formats;
   });
   passes = begun.1.started;
@@ -270,11 +275,12 @@ serves_none laws of_disk converters left taken source_failures sink_failures old
 pub serves_short : {D : Type 0} → AppLaws → (of_disk : DiskOf D) (converters : Converters) (left taken : Option (List ℕ))
     (source_failures sink_failures : ℕ) (old new : D) → IsLawful of_disk.told (of_disk.medium new)
     → Elapses (of_disk.medium old) (of_disk.medium new) → IsUnready of_disk.told of_disk.medium old new
+    → (of_disk.medium new).faults ≡ (of_disk.medium old).faults
     → Serves of_disk converters 4 (still left taken source_failures sink_failures old)
     (still left taken source_failures sink_failures new)
-serves_short laws of_disk converters left taken source_failures sink_failures old new lawful time (inl keeps) =
+serves_short laws of_disk converters left taken source_failures sink_failures old new lawful time (inl keeps) fed =
     served old (as_it_was keeps.0 refl)
     (serve_none laws of_disk.told converters endings.start_memory 4 left taken source_failures sink_failures
-    (of_disk.medium old) (of_disk.medium new) (λ begun. begun) lawful time keeps.1 refl tt)
-serves_short laws of_disk converters left taken source_failures sink_failures old new lawful time (inr nothing) =
-    unprepared nothing (inr refl) (Keeps-refl left) (Keeps-refl taken)
+    (of_disk.medium old) (of_disk.medium new) (λ begun. begun) lawful time keeps.1 refl fed)
+serves_short laws of_disk converters left taken source_failures sink_failures old new lawful time (inr nothing) fed =
+    unprepared nothing (inr (refl, fed)) (Keeps-refl left) (Keeps-refl taken)

@@ -1,20 +1,22 @@
 -- Samples, computed: arguments and the jobs that they ask for, the summary of a synthetic workload, and what a
 -- formatting and the start on it cost.
-use Rattle.std.specs.Prelude.{◌≡◌, ◌+◌, ◌*◌, ℕ, [], ◌∷◌, Option, Some, None, codes}
-use Rattle.std.proofs.Common.{refl}
+use Rattle.std.specs.Prelude.{◌≡◌, ◌≤◌, ◌+◌, ◌*◌, ℕ, [], ◌∷◌, Option, Some, None, codes}
+use Rattle.std.proofs.Common.{arith, refl}
 use Rattle.std.specs.Fmt.{digits}
 use Rattle.clap.proofs.OnLiterals.{clap_on_literals}
 use Rattle.command_text.specs.declared.replies.Answer.{Answer}
 use Rattle.command_text.specs.declared.replies.Answer.TheVariants as answer
 use Rattle.command_text.specs.declared.replies.Reply.{Reply}
 use Rattle.per_base.specs.declared.errors.PerError.TheVariants as error
-use Rattle.deploy_rows.specs.Costs.{format_cost, root_cost}
+use Rattle.deploy_rows.specs.Costs.{format_cost}
 use Rattle.per_list.specs.declared.forms.Form.TheVariants.{Lines, Json}
+use Rattle.run_model.specs.Turns.{DiskBytes}
 use Rattle.per_run.specs.declared.words.Job.{Job}
 use Rattle.per_run.specs.declared.words.JobKind.{JobKind}
 use Rattle.per_run.specs.declared.words.JobKind.TheVariants.{Run, Serve, Format, Generate, Audit, Listing, Export}
 use Rattle.per_run.specs.declared.words.JobKind.TheVariants.{Import, RecoverRoot}
 use Rattle.per_run.specs.Jobs.{summary}
+use Rattle.per_run.specs.Serves.{FormatsWithin}
 use Rattle.per_run.specs.Words.{job_of}
 
 -- ---- arguments
@@ -189,6 +191,12 @@ refused = refl
 
 -- ---- a formatting
 
--- eight roots of 402 bytes, and eight of 270
-formatted_and_started : 8 * format_cost + 8 * root_cost [] ≡ 5376
+-- eight roots of 402 bytes, which the start leaves as they are
+formatted_and_started : 8 * format_cost ≡ 3216
 formatted_and_started = refl
+
+-- a byte more is out of the bound
+no_more : (old new : DiskBytes) → FormatsWithin old new → ¬ (new.written ≡ old.written + 3217)
+no_more old new within more =
+    let cost : new.written ≤ old.written + 3216 = within.written in
+    absurd (omega (arith, cost, more))

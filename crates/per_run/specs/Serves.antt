@@ -13,8 +13,7 @@ use Rattle.command_text.specs.declared.lines.Line.TheVariants as line
 use Rattle.command_text.specs.Grammar.{IsLine}
 use Rattle.command_text.specs.Replies.{reply_text}
 use Rattle.deploy_laws.specs.Apps.{IsCleanApp}
-use Rattle.deploy_rows.specs.Costs.{format_cost, root_cost}
-use Rattle.run_model.specs.Costs.{roots_cost}
+use Rattle.deploy_rows.specs.Costs.{format_cost}
 use Rattle.run_model.specs.Edges.{Converters, Edges, failures_at, modelled}
 use Rattle.run_model.specs.Endings as endings
 use Rattle.run_model.specs.Endings.{Ending, HasCauseOf, HasEnded, bad_line_text, ending_status}
@@ -24,6 +23,7 @@ use Rattle.run_model.specs.Runs.{DiskSide, IsSettled, without_sink}
 use Rattle.run_model.specs.Runtimes.{IsNoRoot}
 use Rattle.run_model.specs.Turns.{DiskBytes, Turn, CountsFailures, bytes_now, worlds_of}
 use Rattle.run_model.specs.Worlds.{after_start, formatted, world_at}
+use Rattle.run_model.specs.Writes.{AreWholeRoots}
 
 -- ---- the lines that were handled
 
@@ -170,14 +170,14 @@ abbrev pub HasNoBytes : Image → Type 0
 HasNoBytes image = (file : ℕ) → file < 32768 → image file ≡ []
 
 -- The formatting of eight roots and the start on them, however far they came: only slots of roots change, and no more
--- is written than both cost.
+-- is written than the formatting costs. The start writes nothing.
 pub record FormatsWithin (old new : DiskBytes) : Type 0 where
   pub roots : Spares IsNoRoot old.image new.image
-  pub written : new.written ≤ old.written + (8 * format_cost + 8 * root_cost [])
+  pub written : new.written ≤ old.written + 8 * format_cost
 
 -- eight applications of which nothing is installed, in clean places, and nothing pending; only slots of roots changed,
--- and no more was written than the formatting of eight roots costs; and the start then costs eight roots with no
--- manifest
+-- and no more was written than the formatting of eight roots costs; and no root lacks anything, so that the start then
+-- writes nothing
 pub record IsFreshlyFormatted (told : Bool) (old start : Medium) : Type 0 where
   pub world : IsTrue told → world_at start.image ≡ formatted
   pub clean : IsTrue told → (app : ℕ) → app < 8 → IsCleanApp app start.image
@@ -185,7 +185,7 @@ pub record IsFreshlyFormatted (told : Bool) (old start : Medium) : Type 0 where
   pub passes : start.faults ≡ old.faults
   pub roots : IsTrue told → Spares IsNoRoot old.image start.image
   pub written : start.written ≤ old.written + 8 * format_cost
-  pub bare : IsTrue told → roots_cost start.image 8 ≡ 8 * root_cost []
+  pub whole : IsTrue told → AreWholeRoots start.image
   pub time : Elapses old start
 
 -- a run that stays starts on the disk as it was; or on one that it formatted, since it was empty
@@ -202,7 +202,7 @@ HadNothing told medium old new = ((IsTrue told → HasNoBytes (medium old).image
     ⊎ OnlyReads (medium old) (medium new)
 
 -- A run that stays went over the disk that was prepared; or that was empty or could not be read, and the runtime did
--- not start: no line was taken and nothing written.
+-- not start: no line was taken and nothing written, and where memory ran out no call of the disk had failed.
 pub data Serves {D : Type 0} (of_disk : DiskOf D) (converters : Converters) (status : ℕ)
     (before after : Edges D) : Type 0
   where
@@ -211,6 +211,6 @@ pub data Serves {D : Type 0} (of_disk : DiskOf D) (converters : Converters) (sta
         (modelled of_disk after) → Serves of_disk converters status before after
     unprepared : HadNothing of_disk.told of_disk.medium before.disk after.disk
         → ((status ≡ 3) × Rose (of_disk.medium before.disk).faults (of_disk.medium after.disk).faults)
-        ⊎ (status ≡ 4)
+        ⊎ ((status ≡ 4) × ((of_disk.medium after.disk).faults ≡ (of_disk.medium before.disk).faults))
         → Keeps before.left after.left → Keeps before.taken after.taken
         → Serves of_disk converters status before after

@@ -16,8 +16,7 @@ use Rattle.command_text.specs.declared.lines.Line.TheVariants as line
 use Rattle.command_text.specs.declared.replies.Reply.{Reply}
 use Rattle.command_text.specs.Grammar.{IsLine, has_feed}
 use Rattle.command_text.specs.Replies.{HasText}
-use Rattle.deploy_rows.specs.Costs.{format_cost, root_cost}
-use Rattle.run_model.specs.Costs.{roots_cost}
+use Rattle.deploy_rows.specs.Costs.{format_cost}
 use Rattle.run_model.specs.Endings as endings
 use Rattle.run_model.specs.Endings.{EndsBy, IsInput}
 use Rattle.run_model.specs.Lines.{Give, IsBad, lines_of}
@@ -26,6 +25,7 @@ use Rattle.run_model.specs.Runs.{DiskSide}
 use Rattle.run_model.specs.Runtimes.{IsDoubt, IsNoRoot, Memory, Starts, Stepped, Stopped}
 use Rattle.run_model.specs.Turns.{Turn, events_of, replies_of, replies_text, IsBlamed, AreBlamed, CountsFailures}
 use Rattle.run_model.specs.Worlds.{Doubt, world_at, after_start, formatted}
+use Rattle.run_model.specs.Writes.{AreWholeRoots}
 use Rattle.per_run.specs.declared.answering.LineOutcome.{LineOutcome}
 use Rattle.per_run.specs.declared.answering.LineOutcome.TheVariants as outcome
 use Rattle.per_run.specs.declared.endings.Ending.{Ending}
@@ -228,12 +228,12 @@ abbrev pub RunsShort : (told : Bool) → List Rule → Answers → (start : Medi
 RunsShort told rules answers start all medium = Course told rules answers endings.memory start None all None medium
 
 -- A runtime that started on a disk which was formatted before; no more was written until then than the formatting of
--- eight roots costs, and the start costs eight roots with no manifest.
+-- eight roots costs, and no root lacks anything, so that the start writes nothing.
 pub record IsServeBegun (told : Bool) (memory : Memory) (old middle new : Medium) : Type 0 where
   pub passes : middle.faults ≡ old.faults
   pub roots : IsTrue told → Spares IsNoRoot old.image middle.image
   pub written : middle.written ≤ old.written + 8 * format_cost
-  pub bare : IsTrue told → roots_cost middle.image 8 ≡ 8 * root_cost []
+  pub whole : IsTrue told → AreWholeRoots middle.image
   pub started : new.faults ≡ middle.faults
   pub world : IsTrue told → world_at middle.image ≡ formatted
   pub clean : IsTrue told → (app : ℕ) → app < 8 → IsCleanApp app middle.image

@@ -21,7 +21,6 @@ use crate::tally::Tally;
 use crate::writing::write_output;
 use command_text::{first_lines, generated_line, last_lines, next_number};
 use deploy::{Stop, format_all};
-use deploy_rows::manifests_stay;
 use disk_model::Disk;
 use migrate_fns::Migrations;
 use per_base::Sink;
@@ -62,13 +61,13 @@ pub fn start_formatted<D: Disk>(alloc: Global, disk: &mut D) -> Result<Runtime, 
     ensures begun { IfOk result (λ r. (middle : D) × IsServeBegun D.told (memory_of r) (D.medium disk.old)
         (D.medium middle)
         (D.medium disk.new)) }
-    // However it ends, only slots of roots change, and no more is written than the formatting and the start cost.
+    // However it ends, only slots of roots change, and no more is written than the formatting costs.
     ensures within { IsTrue D.told → FormatsWithin (bytes_now (D.medium disk.old)) (bytes_now (D.medium disk.new)) }
-    // Where the device failed, the count of faults rose.
+    // Where the device failed, the count of faults rose, and where memory ran out it stayed.
     ensures cause { IsErrOf result Stop.Device → Rose (D.medium disk.old).faults (D.medium disk.new).faults }
+    ensures fed { IsErrOf result Stop.OutOfMemory → (D.medium disk.new).faults ≡ (D.medium disk.old).faults }
     ensures time { Elapses (D.medium disk.old) (D.medium disk.new) }
 {
-    manifests_stay();
     match format_all(alloc, disk) {
         Ok(()) => start(alloc, disk),
         Err(stop) => Err(stop),

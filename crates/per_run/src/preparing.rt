@@ -27,8 +27,9 @@ pub fn prepare<D: Disk>(alloc: Global, disk: &mut D) -> Result<Runtime, Stop>
     // The runtime started on the disk that was there, or on one that was empty and is formatted; or it did not start.
     ensures readied { IfOk result (λ r. IsReadied D.told D.medium (memory_of r) disk.old disk.new) }
     ensures unready { OnErr result (IsUnready D.told D.medium disk.old disk.new) }
-    // Where the device failed, the count of faults rose.
+    // Where the device failed, the count of faults rose, and where memory ran out it stayed.
     ensures cause { IsErrOf result Stop.Device → Rose (D.medium disk.old).faults (D.medium disk.new).faults }
+    ensures fed { IsErrOf result Stop.OutOfMemory → (D.medium disk.new).faults ≡ (D.medium disk.old).faults }
     ensures time { Elapses (D.medium disk.old) (D.medium disk.new) }
 {
     match is_blank(disk) {

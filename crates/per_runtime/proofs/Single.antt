@@ -25,7 +25,7 @@ use Rattle.run_model.specs.Calls.{Outcome, StepBeside, beside_update, if_open, s
 use Rattle.run_model.specs.Found.{FoundStorage}
 use Rattle.run_model.specs.Lasting.{IsApplication, IsStageOn}
 use Rattle.run_model.specs.OneApp.{as_app, none_there}
-use Rattle.run_model.specs.Runtimes.{IsUnwritten, WritesWithin, is_durable, is_refusal}
+use Rattle.run_model.specs.Runtimes.{WritesWithin, is_durable}
 use Rattle.run_model.specs.Runtimes as memory
 use Rattle.run_model.specs.Sessions.{Session}
 use Rattle.run_model.specs.Steps.{AppStep, FailsAs, after_failure, calls_device, found_named, reaches_device}
@@ -33,7 +33,7 @@ use Rattle.run_model.specs.Steps.{root_opened, uses_device}
 use Rattle.run_model.specs.Turns.{bytes_now}
 use Rattle.run_model.specs.WriteLaws.{call_behind, call_unbegun, opens_alone, opens_nothing}
 use Rattle.run_model.specs.Worlds.{Application, Stage, Sessions, at_rest, is_to_open, none_open, to_open, update_in}
-use Rattle.run_model.specs.Writes.{IsCallWithin}
+use Rattle.run_model.specs.Writes.{IsCallWithin, IsWholeRoot}
 use Rattle.per_runtime.specs.storages.Answers.{CallsTo}
 use Rattle.per_runtime.specs.application.Answers as calls
 use Rattle.per_runtime.specs.application.Answers.{HasRow}
@@ -135,6 +135,7 @@ pub promised : (told : Bool) (rules : List Rule) (answers : Answers) (now : ℕ)
 promised told rules answers now c a a' Untouched old new result rests said = record {
   end = called told rules answers now c a a' Untouched old new result rests said;
   needs = λ tells bad. inr (said.stopped tells bad).needs;
+  fed = said.fed;
   idle = λ tells none. said.idle tells (uses_none (application old.image a) c none);
   looks = λ plans closed. said.looks plans;
   written = said.written;
@@ -220,9 +221,10 @@ whole_calls mend app next old mid new opens time later calls = record {
 pub opened_alone : (told : Bool) (rules : List Rule) (answers : Answers) (now : ℕ) (c : Call) (a : Running)
     (old mid : Medium) → stage_in a.stage ≡ to_open → Spares (IsNoSlot (root_place a.app)) old.image mid.image
     → mid.written ≤ old.written + root_cost (manifests_at old.image a.app)
+    → (IsWholeRoot old.image a.app → bytes_now mid ≡ bytes_now old)
     → IsCallWithin rules answers a.app now (application old.image a) c (bytes_now old) (bytes_now mid)
-opened_alone told rules answers now c a old mid marked slots cost = call_unbegun rules answers a.app now
-    (application old.image a) c (bytes_now old) (bytes_now mid) marked slots cost
+opened_alone told rules answers now c a old mid marked slots cost already = call_unbegun rules answers a.app now
+    (application old.image a) c (bytes_now old) (bytes_now mid) marked slots cost already
 
 module _ (mend : RootMendLaw) (told : Bool) (rules : List Rule) (answers : Answers) (now : ℕ) (c : Call) (a b : Running)
     (old mid : Medium)
@@ -261,7 +263,7 @@ module _ (mend : RootMendLaw) (told : Bool) (rules : List Rule) (answers : Answe
       subst (λ (r : memory.Running). IsCallWithin rules answers a.app now (as_app (app_at old.image a.app) r) c
       (bytes_now old) (bytes_now new)) (sym (closed tells))
       (call_behind rules answers a.app now was c (bytes_now old) (bytes_now mid) (bytes_now new) refl (slots tells)
-      (opens tells).written (opens tells).manifests
+      (opens tells).written (opens tells).already (opens tells).manifests
       (subst (λ (k : ℕ). IsCallWithin rules answers k now is c (bytes_now mid) (bytes_now new)) same
       (subst (λ (r : Application). IsCallWithin rules answers b.app now r c (bytes_now mid) (bytes_now new)) there
       (within tells))))
@@ -379,7 +381,7 @@ module _ (mend : RootMendLaw) (told : Bool) (rules : List Rule) (answers : Answe
       refused = λ tells refused.
           let none = h.unwritten refused (ap (λ (r : memory.Running). is_to_open r.stage) opened) in
           opens_alone a.app (stage_in a.stage) (bytes_now old) (bytes_now mid) (bytes_now new) marked
-          (opens tells).slots (opens tells).written none.0 none.1;
+          (opens tells).slots (opens tells).written (opens tells).already none.0 none.1;
       done = λ tells. let d = h.done tells in record {
         step = step_on tells (reply, application new.image a') d.step;
         later = later_on (app_at new.image a'.app) tells d.later;

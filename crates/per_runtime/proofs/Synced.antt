@@ -323,6 +323,7 @@ module _ (rules : List Rule) (answers : Answers) (told : Bool) (n : ℕ) (c : Ca
         stepped = steps_on reply h.time h.end.stepped;
       };
       needs = λ tells bad. absurd cc;
+      fed = λ bad. absurd cc;
       idle = λ tells none. absurd (not_idle tells none);
       time = elapses_on time h.time;
     }
@@ -331,6 +332,7 @@ module _ (rules : List Rule) (answers : Answers) (told : Bool) (n : ℕ) (c : Ca
       end = stops_on h.time h.end;
       needs = λ tells bad. subst (λ (image : Image).
           CommandMayStarve (world_of image (memory_of r) None) (event.App n c)) nothing.image (h.needs tells bad);
+      fed = λ bad. h.fed bad ∙ passes;
       idle = λ tells none. absurd (not_idle tells none);
       time = elapses_on time h.time;
     }
@@ -359,6 +361,7 @@ module _ (rules : List Rule) (answers : Answers) (told : Bool) (n : ℕ) (c : Ca
       stepped = fails_on makes reads rose;
     };
     needs = λ tells bad. absurd cc;
+    fed = λ bad. absurd cc;
     idle = λ tells none. absurd (not_idle tells none);
     time = time;
   }

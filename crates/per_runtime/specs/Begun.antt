@@ -1,6 +1,6 @@
 -- The start on its way: the roots below some number are opened.
 use Rattle.std.specs.Prelude.{◌≡◌, ◌≤◌, ◌+◌, ◌*◌, ℕ, List, length, replicate, Bool, false, IsTrue, Some, Result, Ok}
-use Rattle.std.specs.Prelude.{Err, Vec, slice_get, ⊤}
+use Rattle.std.specs.Prelude.{Err, Vec, slice_get}
 use Rattle.std.specs.declared.alloc.Global.{Global}
 use Rattle.per_base.specs.Causes.{Rose}
 use Rattle.disk_model.specs.Medium.{Medium, Quiet, Elapses}
@@ -38,7 +38,7 @@ pub record AreOpened (told : Bool) (count : ℕ) (apps : List Running) (old now 
 abbrev pub HasBegun : (told : Bool) → (old new : Medium) → Result (Vec Running Global) Stop → Type 0
 HasBegun told old new (Ok apps) = AreOpened told 8 apps.items old new
 HasBegun told old new (Err Device) = Rose old.faults new.faults
-HasBegun told old new (Err OutOfMemory) = ⊤
+HasBegun told old new (Err OutOfMemory) = new.faults ≡ old.faults
 
 -- a start ended so
 pub record IsBegun (told : Bool) (old new : Medium) (result : Result (Vec Running Global) Stop) : Type 0 where

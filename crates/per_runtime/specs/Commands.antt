@@ -41,5 +41,7 @@ pub record IsCommand (told : Bool) (rules : List Rule) (answers : Answers) (e : 
       (IsTrue told → (doubt : Option Doubt) → IsDoubt (memory_of r) doubt
       → Stopped rules answers e (memory_of r) doubt old new)
   pub needs : IsTrue told → IsErrOf result OutOfMemory → CommandMayStarve (world_of old.image (memory_of r) None) e
+  -- where memory ran out no call of the disk had failed
+  pub fed : IsErrOf result OutOfMemory → new.faults ≡ old.faults
   pub idle : IsTrue told → calls_none (world_of old.image (memory_of r) None) e ≡ true → Untouched
   pub time : Elapses old new

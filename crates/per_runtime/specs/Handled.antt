@@ -90,6 +90,8 @@ pub record IsHandled (told : Bool) (rules : List Rule) (answers : Answers) (now 
       (IsTrue told → IsCallInProgress rules answers a.app now c (application old.image a) old new)
   -- memory ran out only for a call that may need it
   pub needs : IsTrue told → IsErrOf result OutOfMemory → OpensOrStarves a.app now c (application old.image a)
+  -- and no call of the disk had failed
+  pub fed : IsErrOf result OutOfMemory → new.faults ≡ old.faults
   -- a call that begins an update only plans, however it ends
   pub looks : only_plans c ≡ true → is_to_open (stage_in a.stage) ≡ false → IsUnwritten old new
   -- a call that needs no device calls none

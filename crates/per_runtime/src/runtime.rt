@@ -76,8 +76,10 @@ impl Runtime {
         ensures idle { IsTrue D.told → calls_none (world_of (D.medium disk.old).image (memory_of self.old) None)
             event.now ≡ true → disk.new ≡ disk.old }
 
-        // The device's failure is a reply, and has its cause in this command, whether or not the disk is modelled.
+        // The device's failure is a reply, and has its cause in this command, whether or not the disk is modelled; and
+        // where memory ran out, no call of the disk had failed.
         ensures never { ¬ (IsErrOf result Stop.Device) }
+        ensures fed { OnErr result ((D.medium disk.new).faults ≡ (D.medium disk.old).faults) }
         ensures blamed { IfOk result (IsBlamed (D.medium disk.old).faults (D.medium disk.new).faults) }
         ensures time { Elapses (D.medium disk.old) (D.medium disk.new) }
     {

@@ -30,13 +30,15 @@ pub fn start<D: Disk>(alloc: Global, disk: &mut D) -> Result<Runtime, Stop>
     ensures starts { IsTrue D.told → IfOk result (λ r. Starts (memory_of r) (D.medium disk.old) (D.medium disk.new)) }
     ensures fresh { IfOk result (λ r. memory_of r ≡ fresh) }
 
-    // However it ends, at each moment each application stands between what it was and itself with its root mended.
+    // However it ends, at each moment each application stands between what it was and itself with its root mended, and
+    // where no root lacks anything, nothing is written.
     ensures stopped { IsTrue D.told → StartKeeps (D.medium disk.old) (D.medium disk.new) }
     // No more is written than the eight longest roots cost.
     ensures written { (D.medium disk.new).written ≤ (D.medium disk.old).written + 8 * greatest_cost }
-    // The count of faults rose where the device failed, and stayed where the call succeeded.
+    // The count of faults rose where the device failed, and stayed where the call succeeded or memory ran out.
     ensures cause { IsErrOf result Stop.Device → Rose (D.medium disk.old).faults (D.medium disk.new).faults }
     ensures passes { OnOk result ((D.medium disk.new).faults ≡ (D.medium disk.old).faults) }
+    ensures fed { IsErrOf result Stop.OutOfMemory → (D.medium disk.new).faults ≡ (D.medium disk.old).faults }
     ensures time { Elapses (D.medium disk.old) (D.medium disk.new) }
 {
     let apps = open_all(alloc, disk)?;

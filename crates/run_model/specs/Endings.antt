@@ -64,9 +64,11 @@ pub record FailureCounts : Type 0 where
   pub source : ℕ
   pub sink : ℕ
 
--- a run ends for one of the three only where its count rose in that run
+-- a run ends for one of the three only where its count rose in that run; and where memory ran out in its start, that of
+-- the disk stayed
 abbrev pub HasCauseOf : Ending → (before now : FailureCounts) → Type 0
 HasCauseOf device before now = Rose before.disk now.disk
+HasCauseOf start_memory before now = now.disk ≡ before.disk
 HasCauseOf source before now = Rose before.source now.source
 HasCauseOf sink before now = Rose before.sink now.sink
 HasCauseOf other before now = ⊤

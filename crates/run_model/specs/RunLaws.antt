@@ -460,7 +460,12 @@ starts_going rules answers memory old new time s = record {
       (start_calm old) (s.keeps.always app lt clean)
       (record { clean = s.clean app lt clean; quiet = λ none. s.quiet });
   begun = bytes_now new;
-  starts = record { roots = s.keeps.roots; written = s.keeps.written; later = time.written };
+  starts = record {
+    roots = s.keeps.roots;
+    written = s.keeps.written;
+    already = s.keeps.already;
+    later = time.written;
+  };
   bounded = tt;
   held = refl;
   time = time;
@@ -499,7 +504,12 @@ start_disk laws rules answers how before after told old new lawful time open_end
   reached = [];
   next = disks (after_start (world_at old.image));
   begun = bytes_now new;
-  starts = record { roots = keeps.roots; written = keeps.written; later = time.written };
+  starts = record {
+    roots = keeps.roots;
+    written = keeps.written;
+    already = keeps.already;
+    later = time.written;
+  };
   bounded = tt;
   progress = starting open_end refl refl refl refl refl refl;
   clean = λ app lt clean calm. begun_clean app lt clean;

@@ -1,5 +1,6 @@
 -- A run: what holds of the disk at its end and at every moment, and all of it together.
-use Rattle.std.specs.Prelude.{◌≡◌, ◌⊎◌, ◌≤◌, ◌<◌, ℕ, List, [], ◌∷◌, ◌++◌, length, Option, Some, None, Bool, IsTrue, ⊤}
+use Rattle.std.specs.Prelude.{◌≡◌, ◌≢◌, ◌⊎◌, ◌≤◌, ◌<◌, ℕ, List, [], ◌∷◌, ◌++◌, length, Option, Some, None, Bool}
+use Rattle.std.specs.Prelude.{IsTrue, ⊤}
 use Rattle.std.specs.List.{AllByRecursion}
 use Rattle.std.specs.Io.KnownBytes.{Appends, Consumes, IsAtEnd}
 use Rattle.disk_model.specs.Case.{Case}
@@ -11,7 +12,7 @@ use Rattle.deploy_laws.specs.Apps.{IsCleanApp}
 use Rattle.deploy_laws.specs.Pieces.{IsSoundApp}
 use Rattle.run_model.specs.Bounds.{AreBounded, IsBegunWithin, StartsWithin, bytes_after}
 use Rattle.run_model.specs.Edges.{Converters, Edges, failures_at}
-use Rattle.run_model.specs.Endings.{Ending, ending_status, HasStarted, HasEnded, HasCauseOf, EndsBy, IsInput}
+use Rattle.run_model.specs.Endings.{Ending, device, ending_status, HasStarted, HasEnded, HasCauseOf, EndsBy, IsInput}
 use Rattle.run_model.specs.Lasting.{IsWorld}
 use Rattle.run_model.specs.Lines.{lines_of, Give}
 use Rattle.run_model.specs.Moments.{AreImaged, IsMomentOf, OrBefore, last_of, AreSoundDoubts, AreDecided}
@@ -168,7 +169,7 @@ pub record Run (told : Bool) (converters : Converters) (status : ℕ) (before af
   -- also over a disk that models nothing: what a failure has to do with the status and with each reply, and how time
   -- goes on
   pub cause : HasCauseOf ending (failures_at before) (failures_at after)
-  pub failures : CountsFailures (HasEnded ending) before.disk.faults turns after.disk.faults
+  pub failures : CountsFailures (ending ≢ device) before.disk.faults turns after.disk.faults
   pub time : Elapses before.disk after.disk
   pub disk : IsTrue told → DiskSide converters ending (record {
     lines = lines;

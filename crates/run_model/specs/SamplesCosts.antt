@@ -1,6 +1,6 @@
 -- What calls write at most, computed.
 use Rattle.std.specs.Prelude.{◌≡◌, ◌≤◌, ◌<◌, ℕ, ◌+◌, ◌*◌, List, [], ◌∷◌, Some, None, refl}
-use Rattle.std.proofs.Common.{arith, inr, subst}
+use Rattle.std.proofs.Common.{ap, arith, inr, subst}
 use Rattle.per_base.specs.declared.elements.Content.TheVariants.{Good}
 use Rattle.per_base.specs.declared.errors.PerError.TheVariants as error
 use Rattle.disk_model.specs.Place.{IsNoSlot}
@@ -11,13 +11,14 @@ use Rattle.command_text.specs.declared.calls.Call.{Call}
 use Rattle.command_text.specs.declared.calls.Call.TheVariants as call
 use Rattle.deploy_laws.specs.Places.{root_place, storage_shape}
 use Rattle.deploy_rows.specs.Costs.{format_cost, greatest_cost, install_cost, manifests_at, root_cost}
+use Rattle.run_model.specs.Bounds.{StartsWithin}
 use Rattle.run_model.specs.Costs.{call_cost, finishing_cost, next_cost, opening_cost, update_cost}
 use Rattle.run_model.specs.Samples.{at_first, at_nine, computed, fav, home, in_copies, on, the_plan, world_after}
 use Rattle.run_model.specs.SamplesDamage.{found_so, in_three}
 use Rattle.run_model.specs.SamplesManifests.{cut_text, favourites_text, manifests_read, second_text}
 use Rattle.run_model.specs.Turns.{DiskBytes}
 use Rattle.run_model.specs.Worlds.{Application, World, app_of, at_rest, to_open}
-use Rattle.run_model.specs.Writes.{CostsCall, IsBesideCall, OpensAtMost}
+use Rattle.run_model.specs.Writes.{AreWholeRoots, CostsCall, IsBesideCall, IsWholeRoot, OpensAtMost}
 
 -- what a call of application 0 costs in this world, whose root keeps these manifests
 abbrev cost : List (List ℕ) → World → Call → ℕ
@@ -63,23 +64,43 @@ opened_before = refl
 
 -- ---- versions
 
--- one storage in one copy, whose key takes one block, and the root with this manifest of 116 bytes
-a_small_install : install_cost 0 favourites_text ≡ 256 + 524464 + 3 * (8 + 116 + 88)
+-- one storage in one copy, whose key `home` takes one block, with an index of 4 bytes and 53 for the key, and the root
+-- with this manifest of 116 bytes
+abbrev one_key : ℕ
+one_key = 256 + (4 + 53) + 5 * 44
+
+abbrev first_root : ℕ
+first_root = 3 * (8 + 116 + 88)
+
+a_small_install : install_cost 0 favourites_text ≡ one_key + first_root
 unfolding manifests_read
 a_small_install = refl
+
+-- with its root written twice, it is out of the bound
+installed_once : (rules : List Rule) (answers : Answers) (w : World) (before : ℕ)
+    → ¬ (CostsCall rules answers 0 0 [] (app_of w 0) (call.Install favourites_text) before
+    (before + (one_key + 2 * first_root)))
+installed_once rules answers w before within =
+    let bounded : before + (one_key + 2 * first_root) ≤ before + (one_key + first_root) =
+    subst (λ (most : ℕ). before + (one_key + 2 * first_root) ≤ before + most) a_small_install within in
+    absurd (omega (arith, bounded))
 
 -- a refused manifest
 a_refused_install : install_cost 0 cut_text ≡ 0
 unfolding manifests_read
 a_refused_install = refl
 
--- updated in one call: four keys, and a root that keeps a manifest of 339 bytes beside that of 116
-a_small_update : update_cost (favourites_text ∷ []) second_text the_plan ≡ 4 * 256 + 524464 + 3 * (12 + 339 + 116 + 88)
+-- updated in one call: the keys `conv`, `keep`, `new` and `over`, and a root that keeps a manifest of 339 bytes beside
+-- that of 116
+abbrev four_keys : ℕ
+four_keys = 4 * 256 + (4 + 53 + 53 + 52 + 53) + 5 * 44
+
+a_small_update : update_cost (favourites_text ∷ []) second_text the_plan ≡ four_keys + 3 * (12 + 339 + 116 + 88)
 unfolding manifests_read
 a_small_update = refl
 
 -- in steps: one storage in one copy, with four keys of a block each, and none once it is made
-one_storage : next_cost (Some the_plan) ≡ 4 * 256 + 524464
+one_storage : next_cost (Some the_plan) ≡ four_keys
 one_storage = refl
 
 none_remains : next_cost (Some (record the_plan { built = 1 })) ≡ 0
@@ -174,6 +195,18 @@ three_files = omega arith
 an_install : ¬ (IsBesideCall 0 unopened (call.Install favourites_text) 1024)
 unfolding manifests_read storage_shape
 an_install beside = beside.1.0 0 0 one_copy three_files refl
+
+-- nor is that root written where it lacks nothing
+a_whole_root : (old new : DiskBytes) → IsWholeRoot old.image 0 → OpensAtMost 0 to_open old new
+    → new.written ≡ old.written
+a_whole_root old new whole opens = ap (λ (b : DiskBytes). b.written) (opens.already whole)
+
+-- a start writes no byte where no root lacks anything
+a_start : (old new : DiskBytes) → AreWholeRoots old.image → StartsWithin old new
+    → ¬ (new.written ≡ old.written + 1)
+a_start old new whole starts more =
+    let same = ap (λ (b : DiskBytes). b.written) (starts.already whole) in
+    absurd (omega (arith, same, more))
 
 behind_root : (copy parity : ℕ) → copy < 3 → parity < 2 → ¬ (1024 ≡ 0 + 4 * copy + parity)
 behind_root copy parity three two is = absurd (omega (arith, three, two, is))

@@ -1,7 +1,7 @@
 -- The start: the roots are opened one after another, and at every moment each application stands between what it was
 -- and itself with its root mended.
 use Rattle.std.specs.Prelude.{◌≡◌, ◌≢◌, ◌⊎◌, ◌<◌, ◌≤◌, ◌+◌, ◌-◌, ℕ, List, zero, suc, map, true, false, nat_lt}
-use Rattle.std.proofs.Common.{refl, sym, ap, ◌∙◌, subst, le_refl, inl, inr, ⊎_elim, arith, eq-or-lt_of_le}
+use Rattle.std.proofs.Common.{refl, sym, ap, ap₂, ◌∙◌, subst, le_refl, inl, inr, ⊎_elim, arith, eq-or-lt_of_le}
 use Rattle.std.proofs.lemmas.Bool.{cases_Bool}
 use Rattle.std.proofs.lemmas.Bool.Decides.{nat_tests}
 use Rattle.disk_model.specs.Image.{Image}
@@ -19,7 +19,9 @@ use Rattle.run_model.specs.AppLaws.{AppLaws, OpensRoot}
 use Rattle.run_model.specs.Costs.{roots_cost}
 use Rattle.run_model.specs.Moments.{Between, OrBefore}
 use Rattle.run_model.specs.Runtimes.{IsNoRoot, StartKeeps}
+use Rattle.run_model.specs.Turns.{DiskBytes, bytes_now}
 use Rattle.run_model.specs.Worlds.{Application, disks, disk_at, all_resting, world_at, after_start}
+use Rattle.run_model.specs.Writes.{AreWholeRoots, IsWholeRoot}
 
 -- ---- the worlds of the start
 
@@ -50,7 +52,7 @@ at_start image b lt = start_disk (app_at image) 0 8 b lt ∙ ap (λ (k : ℕ). r
 -- ---- a start that is under way
 
 -- the roots below this number are opened, the others are as they were, and each application stood so at every moment;
--- no more is written than these roots cost
+-- no more is written than these roots cost, and nothing where no root lacks anything
 pub record OpenedUpTo (count : ℕ) (old now : Medium) : Type 0 where
   pub moments : (b : ℕ) → b < 8 → IsCleanApp b old.image
       → EachCase (OrBefore old (StandsCase b (app_at old.image b) (reopened (app_at old.image b)))) old now
@@ -60,6 +62,7 @@ pub record OpenedUpTo (count : ℕ) (old now : Medium) : Type 0 where
   pub roots : Spares IsNoRoot old.image now.image
   pub kept : (b : ℕ) → count ≤ b → b < 8 → manifests_at now.image b ≡ manifests_at old.image b
   pub written : now.written ≤ old.written + roots_cost old.image count
+  pub already : AreWholeRoots old.image → bytes_now now ≡ bytes_now old
   pub quiet : Quiet now
   pub time : Elapses old now
 
@@ -105,6 +108,14 @@ one_more_cost old now was mid after count same before cost =
     let more = one_more old count in
     omega (arith, before, here, more)
 
+-- where the roots before it lacked nothing, and so wrote nothing, and it lacks nothing, no more is written
+pub still_whole : (a : ℕ) (old now new : Medium) → a < 8 → (AreWholeRoots old.image → bytes_now now ≡ bytes_now old)
+    → (IsWholeRoot now.image a → bytes_now new ≡ bytes_now now) → AreWholeRoots old.image
+    → bytes_now new ≡ bytes_now old
+still_whole a old now new lta before here are =
+    let same = before are in
+    here (subst (λ (i : Image). IsWholeRoot i a) (sym (ap (λ (b : DiskBytes). b.image) same)) (are a lta)) ∙ same
+
 -- one root more
 pub open_next : AppLaws → (a : ℕ) (old now new : Medium) → a < 8 → OpenedUpTo a old now → OpensRoot a now new
     → OpenedUpTo (a + 1) old new
@@ -121,6 +132,7 @@ open_next laws a old now new lta o r = record {
       (files_apart a b f (λ e. omega (arith, e, above)) of)) ∙ o.kept b (omega (arith, above)) lt;
   written = one_more_cost old.image now.image old.written now.written new.written a (o.kept a (le_refl a) lta) o.written
       r.written;
+  already = still_whole a old now new lta o.already r.already;
   quiet = r.quiet;
   time = elapses_on o.time r.time;
 }
@@ -178,6 +190,7 @@ open_none laws old now time nothing quiet = record {
   roots = λ f is. ap (λ (i : Image). i f) nothing.image;
   kept = λ b above lt. ap (λ (i : Image). manifests_at i b) nothing.image;
   written = let same = nothing.written in omega (arith, same);
+  already = λ are. ap₂ (λ (i : Image) (n : ℕ). record { image = i; written = n }) nothing.image nothing.written;
   quiet = quiet;
   time = time;
 }
@@ -215,14 +228,15 @@ pub keeps_worlds : (old new : Medium) → ((b : ℕ) → b < 8 → IsCleanApp b 
     → OnlyReads old new ⊎ ((b : ℕ) → b < 8 → IsCleanApp b old.image → (c : Case) → new.now c
     → StandsCase b (app_at old.image b) (reopened (app_at old.image b)) c)
     → Spares IsNoRoot old.image new.image → new.written ≤ old.written + roots_cost old.image 8
-    → StartKeeps old new
-keeps_worlds old new moments exit roots cost = record {
+    → (AreWholeRoots old.image → bytes_now new ≡ bytes_now old) → StartKeeps old new
+keeps_worlds old new moments exit roots cost already = record {
   always = λ b lt clean c s. ⊎_elim (λ before. inl before) (λ stands. inr (between_worlds old.image b lt c stands))
       (moments b lt clean c s);
   at_exit = ⊎_elim (λ reads. inl reads)
       (λ each. inr (λ b lt clean c at. between_worlds old.image b lt c (each b lt clean c at))) exit;
   roots = roots;
   written = cost;
+  already = already;
 }
 
 -- what so many roots cost, all eight cost too
@@ -247,4 +261,4 @@ some_cost image was now count few cost =
 
 pub opened_keeps : AppLaws → (count : ℕ) (old now : Medium) → count ≤ 8 → OpenedUpTo count old now → StartKeeps old now
 opened_keeps laws count old now few o = keeps_worlds old now o.moments (inr (opened_rests laws count old now o)) o.roots
-    (some_cost old.image old.written now.written count few o.written)
+    (some_cost old.image old.written now.written count few o.written) o.already

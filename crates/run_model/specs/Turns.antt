@@ -68,7 +68,8 @@ abbrev pub AreBlamed : (before : ℕ) → List Turn → (after : ℕ) → Type 0
 AreBlamed before [] after = after ≡ before
 AreBlamed before (t ∷ ts) after = IsBlamed before t.faults t.reply × AreBlamed t.faults ts after
 
--- The failures of a run: those of its answered commands, and after the last of them none where the run was whole.
+-- The failures of a run: those of its answered commands, and after the last of them none where the run was whole, which
+-- is every one but a run whose start the device failed.
 pub record CountsFailures (Whole : Type 0) (before : ℕ) (turns : List Turn) (after : ℕ) : Type 0 where
   pub last : ℕ
   pub blamed : AreBlamed before turns last

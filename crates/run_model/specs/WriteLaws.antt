@@ -1,11 +1,12 @@
 -- What is known of the bound on a command: one that writes nothing keeps it, one that names a storage where it stays in
 -- that storage's place, and one whose root was opened first. And of one that is refused: it writes that opening alone.
-use Rattle.std.specs.Prelude.{◌≡◌, ◌≤◌, ℕ, ◌+◌, List, Option, Some, None, Ok, Err}
-use Rattle.std.proofs.Common.{refl, sym, ap, ◌∙◌, subst, le_trans, inl, inr, arith}
+use Rattle.std.specs.Prelude.{◌≡◌, ◌≤◌, ◌<◌, ℕ, ◌+◌, List, Option, Some, None, Ok, Err}
+use Rattle.std.proofs.Common.{refl, sym, ap, ap₂, ◌∙◌, subst, le_trans, inl, inr, arith}
 use Rattle.per_base.specs.declared.errors.PerError.{PerError}
 use Rattle.disk_model.specs.Frame.{Spares}
 use Rattle.disk_model.specs.Image.{Image}
 use Rattle.disk_model.specs.Place.{IsNoSlot}
+use Rattle.guarded_cell.specs.Register.{IsAlone}
 use Rattle.migrate_fns.specs.Rules.{Rule, Answers}
 use Rattle.command_text.specs.declared.calls.Call.{Call}
 use Rattle.command_text.specs.declared.calls.Call.TheVariants as call
@@ -20,7 +21,8 @@ use Rattle.run_model.specs.Found.{FoundStorage}
 use Rattle.run_model.specs.Steps.{device_storage, found_named}
 use Rattle.run_model.specs.Turns.{DiskBytes}
 use Rattle.run_model.specs.Worlds.{Application, Sessions, Stage, World, app_of, at_rest, to_open}
-use Rattle.run_model.specs.Writes.{CostsCall, IsBesidePlaces, IsCallWithin, IsCommandWithin, OpensAtMost}
+use Rattle.run_model.specs.Writes.{AreWholeRoots, CostsCall, IsBesideCall, IsBesidePlaces, IsCallWithin}
+use Rattle.run_model.specs.Writes.{IsCommandWithin, IsWholeRoot, OpensAtMost}
 
 none_some : {A : Type 0} (x : Option A) (a : A) → x ≡ None → x ≡ Some a → ⊥
 none_some x a none some = cc
@@ -31,12 +33,40 @@ none_some x a none some = cc
 allowed : (before after cost : ℕ) → after ≤ before → after ≤ before + cost
 allowed before after cost le = omega (arith, le)
 
+-- and more where more was written before
+raised : (before before' after cost : ℕ) → before ≤ before' → after ≤ before + cost → after ≤ before' + cost
+raised before before' after cost more le = omega (arith, more, le)
+
+-- the same bytes
+pub unchanged : (old new : DiskBytes) → new.image ≡ old.image → new.written ≡ old.written → new ≡ old
+unchanged old new image written = ap₂ (λ (i : Image) (n : ℕ). record { image = i; written = n }) image written
+
+no_more : (old new : DiskBytes) → new ≡ old → new.written ≤ old.written
+no_more old new same = let count = ap (λ (b : DiskBytes). b.written) same in omega (arith, count)
+
+-- a root whose text is held alone lacks nothing
+pub whole_root : (image : Image) (app generation : ℕ) (text : List ℕ)
+    → IsAlone image (root_place app) generation text → IsWholeRoot image app
+whole_root image app generation text alone = record { generation = generation; text = text; alone = alone }
+
+pub all_whole : (image : Image) (generation : ℕ) (text : List ℕ)
+    → ((app : ℕ) → app < 8 → IsAlone image (root_place app) generation text) → AreWholeRoots image
+all_whole image generation text alone app lt = whole_root image app generation text (alone app lt)
+
 module _ (rules : List Rule) (answers : Answers) (now : ℕ) (r : Application) where
   -- where nothing is written
   pub costs_nothing : (app : ℕ) (kept : List (List ℕ)) (c : Call) (before after : ℕ) → after ≤ before
       → CostsCall rules answers app now kept r c before after
   costs_nothing app kept (call.Update text) before after le = inl le
   costs_nothing app kept other before after le = allowed before after (call_cost app now kept r other) le
+
+  costs_raised : (app : ℕ) (kept : List (List ℕ)) (c : Call) (before before' after : ℕ) → before ≤ before'
+      → CostsCall rules answers app now kept r c before after → CostsCall rules answers app now kept r c before' after
+  costs_raised app kept (call.Update text) before before' after more (inl le) = inl (le_trans le more)
+  costs_raised app kept (call.Update text) before before' after more (inr of) =
+      inr (of.0, of.1, raised before before' after (update_cost kept text of.0) more of.2)
+  costs_raised app kept other before before' after more le =
+      raised before before' after (call_cost app now kept r other) more le
 
   -- of a call that names a storage it is the cost of that
   pub costs_named : (app : ℕ) (kept : List (List ℕ)) (c : Call) (name : List ℕ) → device_storage c ≡ Some name
@@ -66,15 +96,26 @@ module _ (rules : List Rule) (answers : Answers) (now : ℕ) (r : Application) w
   files_named app other name some old new place missing file (inr (inr refused)) =
       ap (λ (i : Image). i file) (missing refused.0 refused.1)
 
+-- what a call keeps to whose root is open, it keeps to where its root is to be opened
+pub call_opened : (rules : List Rule) (answers : Answers) (app now : ℕ) (r : Application) (c : Call)
+    (old new : DiskBytes)
+    → CostsCall rules answers app now (manifests_at old.image app) r c old.written new.written
+    → Spares (IsBesideCall app r c) old.image new.image → IsCallWithin rules answers app now r c old new
+call_opened rules answers app now r c old new costs files = record {
+  costs = costs_raised rules answers now r app (manifests_at old.image app) c old.written
+      (old.written + opening_cost (manifests_at old.image app) r.stage) new.written (omega arith) costs;
+  already = λ whole. costs;
+  files = files;
+}
+
 -- where the image is the same, and no more is written
 pub call_unwritten : (rules : List Rule) (answers : Answers) (app now : ℕ) (r : Application) (c : Call)
     (old new : DiskBytes) → new.image ≡ old.image → new.written ≡ old.written
     → IsCallWithin rules answers app now r c old new
-call_unwritten rules answers app now r c old new image written = record {
-  costs = costs_nothing rules answers now r app (manifests_at old.image app) c
-      (old.written + opening_cost (manifests_at old.image app) r.stage) new.written (omega (arith, written));
-  files = λ file beside. ap (λ (i : Image). i file) image;
-}
+call_unwritten rules answers app now r c old new image written = call_opened rules answers app now r c old new
+    (costs_nothing rules answers now r app (manifests_at old.image app) c old.written new.written
+    (omega (arith, written)))
+    (λ file beside. ap (λ (i : Image). i file) image)
 
 -- of a call that names a storage
 pub call_named : (rules : List Rule) (answers : Answers) (app now : ℕ) (r : Application) (c : Call) (name : List ℕ)
@@ -84,12 +125,10 @@ pub call_named : (rules : List Rule) (answers : Answers) (app now : ℕ) (r : Ap
     → Spares (IsBeside app f.bank f.number) old.image new.image)
     → ((e : PerError) → found_named r c ≡ Some (Err e) → new.image ≡ old.image)
     → IsCallWithin rules answers app now r c old new
-call_named rules answers app now r c name old new some cost place missing = record {
-  costs = costs_named rules answers now r app (manifests_at old.image app) c name some
-      (old.written + opening_cost (manifests_at old.image app) r.stage) new.written (omega (arith, cost));
-  files = λ file beside. files_named rules answers now r app c name some old.image new.image place missing file
-      beside.1;
-}
+call_named rules answers app now r c name old new some cost place missing =
+    call_opened rules answers app now r c old new
+    (costs_named rules answers now r app (manifests_at old.image app) c name some old.written new.written cost)
+    (λ file beside. files_named rules answers now r app c name some old.image new.image place missing file beside.1)
 
 pub command_unwritten : (rules : List Rule) (answers : Answers) (w : World) (e : Event) (old new : DiskBytes)
     → new.image ≡ old.image → new.written ≡ old.written → IsCommandWithin rules answers w e old new
@@ -98,10 +137,6 @@ command_unwritten rules answers w (event.App app c) old new image written =
     call_unwritten rules answers app w.now (app_of w app) c old new image written
 
 -- ---- a root that is opened first
-
--- more is allowed where more was written before
-raised : (before before' after cost : ℕ) → before ≤ before' → after ≤ before + cost → after ≤ before' + cost
-raised before before' after cost more le = omega (arith, more, le)
 
 module _ (a : App) (sessions : Sessions) where
   -- before it is opened
@@ -132,20 +167,25 @@ module _ (a : App) (sessions : Sessions) where
   call_marked : (rules : List Rule) (answers : Answers) (app now : ℕ) (c : Call) (old mid new : DiskBytes)
       → Spares (IsNoSlot (root_place app)) old.image mid.image
       → mid.written ≤ old.written + root_cost (manifests_at old.image app)
+      → (IsWholeRoot old.image app → mid ≡ old)
       → CostsCall rules answers app now (manifests_at old.image app) opened c (mid.written + 0) new.written
       → ((file : ℕ) → IsNoSlot (root_place app) file × IsBesidePlaces app opened c file
       → new.image file ≡ mid.image file)
       → IsCallWithin rules answers app now marked c old new
-  call_marked rules answers app now c old mid new slots cost costs files = record {
+  call_marked rules answers app now c old mid new slots cost already costs files = record {
     costs = costs_marked rules answers app now (manifests_at old.image app) c (mid.written + 0)
         (old.written + root_cost (manifests_at old.image app)) new.written (omega (arith, cost)) costs;
+    already = λ whole. let same = no_more old mid (already whole) in
+        costs_marked rules answers app now (manifests_at old.image app) c (mid.written + 0) old.written new.written
+        (omega (arith, same)) costs;
     files = λ file beside. files file (beside.0, beside_marked app c file beside.1) ∙ slots file beside.0;
   }
 
--- what is allowed beside an opening that costs nothing
+-- what is allowed beside the opening
 module _ (rules : List Rule) (answers : Answers) (app now : ℕ) (r : Application) (c : Call) (old mid new : DiskBytes)
     (marked_is : r.stage ≡ to_open) (slots : Spares (IsNoSlot (root_place app)) old.image mid.image)
-    (cost : mid.written ≤ old.written + root_cost (manifests_at old.image app)) where
+    (cost : mid.written ≤ old.written + root_cost (manifests_at old.image app))
+    (already : IsWholeRoot old.image app → mid ≡ old) where
   abbrev r' : Application
   r' = record r { disk = reopened r.disk; stage = at_rest }
 
@@ -153,7 +193,8 @@ module _ (rules : List Rule) (answers : Answers) (app now : ℕ) (r : Applicatio
       → ((file : ℕ) → IsNoSlot (root_place app) file × IsBesidePlaces app r' c file → new.image file ≡ mid.image file)
       → IsCallWithin rules answers app now r c old new
   behind costs files = subst (λ (s : Stage). IsCallWithin rules answers app now (record r { stage = s }) c old new)
-      (sym marked_is) (call_marked r.disk r.sessions rules answers app now c old mid new slots cost costs files)
+      (sym marked_is) (call_marked r.disk r.sessions rules answers app now c old mid new slots cost already costs
+      files)
 
   -- A call over an opened root, and before it the opening, which changed slots of the root alone.
   pub call_behind : manifests_at mid.image app ≡ manifests_at old.image app
@@ -164,10 +205,10 @@ module _ (rules : List Rule) (answers : Answers) (app now : ℕ) (r : Applicatio
 -- and the opening alone, where the call did nothing
 pub call_unbegun : (rules : List Rule) (answers : Answers) (app now : ℕ) (r : Application) (c : Call)
     (old new : DiskBytes) → r.stage ≡ to_open → Spares (IsNoSlot (root_place app)) old.image new.image
-    → new.written ≤ old.written + root_cost (manifests_at old.image app)
+    → new.written ≤ old.written + root_cost (manifests_at old.image app) → (IsWholeRoot old.image app → new ≡ old)
     → IsCallWithin rules answers app now r c old new
-call_unbegun rules answers app now r c old new marked_is slots cost =
-    behind rules answers app now r c old new new marked_is slots cost
+call_unbegun rules answers app now r c old new marked_is slots cost already =
+    behind rules answers app now r c old new new marked_is slots cost already
     (costs_nothing rules answers now (record r { disk = reopened r.disk; stage = at_rest }) app
     (manifests_at old.image app) c (new.written + 0) new.written (omega arith)) (λ file beside. refl)
 
@@ -178,6 +219,7 @@ pub opens_nothing : (app : ℕ) (stage : Stage) (old new : DiskBytes) → new.im
     → new.written ≡ old.written → OpensAtMost app stage old new
 opens_nothing app stage old new image written = record {
   costs = allowed old.written new.written (opening_cost (manifests_at old.image app) stage) (omega (arith, written));
+  already = λ whole. unchanged old new image written;
   files = λ file is. ap (λ (i : Image). i file) image;
 }
 
@@ -188,11 +230,12 @@ only_before was opened now cost le same = omega (arith, le, same)
 -- it wrote nothing after its root was opened
 pub opens_alone : (app : ℕ) (stage : Stage) (old mid new : DiskBytes) → stage ≡ to_open
     → Spares (IsNoSlot (root_place app)) old.image mid.image
-    → mid.written ≤ old.written + root_cost (manifests_at old.image app) → new.image ≡ mid.image
-    → new.written ≡ mid.written → OpensAtMost app stage old new
-opens_alone app stage old mid new marked_is slots cost image written = record {
+    → mid.written ≤ old.written + root_cost (manifests_at old.image app) → (IsWholeRoot old.image app → mid ≡ old)
+    → new.image ≡ mid.image → new.written ≡ mid.written → OpensAtMost app stage old new
+opens_alone app stage old mid new marked_is slots cost already image written = record {
   costs = subst (λ (s : Stage). new.written ≤ old.written + opening_cost (manifests_at old.image app) s)
       (sym marked_is)
       (only_before old.written mid.written new.written (root_cost (manifests_at old.image app)) cost written);
+  already = λ whole. unchanged mid new image written ∙ already whole;
   files = λ file is. ap (λ (i : Image). i file) image ∙ slots file is;
 }

@@ -1,11 +1,13 @@
 -- What a command writes at most: how many bytes, and into which files.
-use Rattle.std.specs.Prelude.{◌≡◌, ◌≤◌, ◌⊎◌, ℕ, ◌+◌, ◌-◌, List, [], drop, take, Option, Some, None, Ok, Err}
+use Rattle.std.specs.Prelude.{◌≡◌, ◌≤◌, ◌<◌, ◌⊎◌, ℕ, ◌+◌, ◌-◌, List, [], drop, take, Option, Some, None, Ok, Err}
 use Rattle.std.specs.Prelude.{⊤}
 use Rattle.std.specs.List.{AllByRecursion}
 use Rattle.per_base.specs.declared.errors.PerError.{PerError}
 use Rattle.disk_model.specs.Frame.{Spares}
+use Rattle.disk_model.specs.Image.{Image}
 use Rattle.disk_model.specs.Place.{IsNoSlot, IsOutside}
 use Rattle.element_state.specs.declared.shapes.Shape.{Shape}
+use Rattle.guarded_cell.specs.Register.{IsAlone}
 use Rattle.migrate_fns.specs.Rules.{Rule, Answers}
 use Rattle.command_text.specs.declared.calls.Call.{Call}
 use Rattle.command_text.specs.declared.calls.Call.TheVariants as call
@@ -21,6 +23,18 @@ use Rattle.run_model.specs.Found.{FoundStorage}
 use Rattle.run_model.specs.Steps.{device_storage, found_named}
 use Rattle.run_model.specs.Turns.{DiskBytes}
 use Rattle.run_model.specs.Worlds.{Application, Stage, World, app_of, update_in}
+
+-- ---- roots that lack nothing
+
+-- every copy of the application's root holds one text, and no other is held
+pub record IsWholeRoot (image : Image) (app : ℕ) : Type 0 where
+  pub generation : ℕ
+  pub text : List ℕ
+  pub alone : IsAlone image (root_place app) generation text
+
+-- the roots of all eight
+abbrev pub AreWholeRoots : Image → Type 0
+AreWholeRoots image = (app : ℕ) → app < 8 → IsWholeRoot image app
 
 -- ---- bytes
 
@@ -80,11 +94,13 @@ IsBesideCall app r c file = IsNoSlot (root_place app) file × IsBesidePlaces app
 -- ---- both
 
 -- What a call on application `r` wrote, and which files it may have changed, also where its root was opened first: the
--- root may then have been written once for that.
+-- root may then have been written once for that, and is not where it lacks nothing (`already`).
 pub record IsCallWithin (rules : List Rule) (answers : Answers) (app now : ℕ) (r : Application) (c : Call)
     (old new : DiskBytes) : Type 0 where
   pub costs : CostsCall rules answers app now (manifests_at old.image app) r c
       (old.written + opening_cost (manifests_at old.image app) r.stage) new.written
+  pub already : IsWholeRoot old.image app
+      → CostsCall rules answers app now (manifests_at old.image app) r c old.written new.written
   pub files : Spares (IsBesideCall app r c) old.image new.image
 
 -- the same of a command
@@ -95,10 +111,11 @@ IsCommandWithin rules answers w (event.App app c) old new =
 
 -- ---- a refused command
 
--- Nothing but the opening of the root, where it is to be opened: no more is written than that costs, and no file
--- changes but slots of the root.
+-- Nothing but the opening of the root, where it is to be opened: no more is written than that costs, and nothing where
+-- the root lacks nothing; and no file changes but slots of the root.
 pub record OpensAtMost (app : ℕ) (stage : Stage) (old new : DiskBytes) : Type 0 where
   pub costs : new.written ≤ old.written + opening_cost (manifests_at old.image app) stage
+  pub already : IsWholeRoot old.image app → new ≡ old
   pub files : Spares (IsNoSlot (root_place app)) old.image new.image
 
 -- the same of a command's application

@@ -33,7 +33,7 @@ use Rattle.run_model.specs.Steps.{after_failure, device_storage, found_named}
 use Rattle.run_model.specs.Turns.{bytes_now}
 use Rattle.run_model.specs.WriteLaws.{call_unwritten}
 use Rattle.run_model.specs.Writes.{IsCallWithin}
-use Rattle.run_model.specs.Worlds.{Application, none_open}
+use Rattle.run_model.specs.Worlds.{Application}
 use Rattle.run_model.specs.Worlds as worlds
 use Rattle.per_runtime.specs.declared.storages.slots.OpenSlots.{OpenSlots}
 use Rattle.per_runtime.specs.storages.Slots.{AreOpenOn, IsResting, resting_with, sessions_in}
@@ -174,6 +174,7 @@ module _ (told : Bool) (rules : List Rule) (answers : Answers) (now : ℕ) (c : 
       within = within;
       place = λ tells. names_none b.app c r word.no_storage old.image new.image;
       cause = λ bad. absurd cc;
+      fed = λ bad. absurd cc;
       passes = m.passes;
       unfailed = (plain o.refused refl).0;
       text = (plain o.refused refl).1;
@@ -207,6 +208,7 @@ module _ (told : Bool) (rules : List Rule) (answers : Answers) (now : ℕ) (c : 
         within = within;
         place = λ tells. names_none b.app c r word.no_storage old.image new.image;
         cause = λ bad. m.cause refl;
+        fed = λ bad. absurd cc;
         passes = tt;
         unfailed = tt;
         text = tt;
@@ -242,6 +244,7 @@ module _ (told : Bool) (rules : List Rule) (answers : Answers) (now : ℕ) (c : 
         within = within;
         place = λ tells. names_none b.app c r word.no_storage old.image new.image;
         cause = λ bad. absurd cc;
+        fed = λ bad. m.fed refl;
         passes = tt;
         unfailed = tt;
         text = tt;
@@ -340,6 +343,7 @@ module _ (told : Bool) (rules : List Rule) (answers : Answers) (now : ℕ) (c : 
         refl refl;
     place = λ tells f named file beside. refl;
     cause = λ bad. absurd cc;
+    fed = λ bad. absurd cc;
     passes = refl;
     unfailed = sound;
     text = text;
@@ -372,6 +376,7 @@ module _ (told : Bool) (rules : List Rule) (answers : Answers) (now : ℕ) (c : 
             refl refl;
         place = λ tells f named file beside. refl;
         cause = λ bad. absurd cc;
+        fed = λ bad. refl;
         passes = tt;
         unfailed = tt;
         text = tt;

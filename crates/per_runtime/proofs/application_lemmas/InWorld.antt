@@ -28,7 +28,7 @@ use Rattle.open_storages.specs.Opens.{config_in, session_in, session_kind, store
 use Rattle.run_model.specs.Calls.{active_storages}
 use Rattle.run_model.specs.Lasting.{AreSessionsOn, IsApplication, IsSessionOn, IsStageOn, none_on}
 use Rattle.run_model.specs.Sessions.{Session, files, keys, seen_in, synced_in_session}
-use Rattle.run_model.specs.Worlds.{Application, none_open}
+use Rattle.run_model.specs.Worlds.{none_open}
 use Rattle.run_model.specs.Worlds as worlds
 use Rattle.per_runtime.specs.declared.storages.slots.OpenSlots.{OpenSlots}
 use Rattle.per_runtime.specs.storages.Slots.{AreOpenOn, IsOpenAt, sessions_in}

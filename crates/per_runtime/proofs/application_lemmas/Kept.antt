@@ -14,7 +14,7 @@ use Rattle.element_laws.specs.Apart.{FrameLaw}
 use Rattle.element_laws.specs.Phases.{IsOfPlace}
 use Rattle.element_state.specs.declared.shapes.Shape.{Shape}
 use Rattle.element_state.specs.States.{State, greatest_generation}
-use Rattle.element_store.specs.Stores.{IsUsed, view_in}
+use Rattle.element_store.specs.Stores.{view_in}
 use Rattle.element_store.specs.Stores as stores
 use Rattle.deploy.specs.declared.errors.Stop.{Stop}
 use Rattle.deploy.specs.declared.roots.Outcome.{Outcome}

@@ -122,6 +122,7 @@ pub record Made (told : Bool) (row : App → Result App PerError) (Due : PerErro
   pub quiet : Quiet old → OnOk made (Quiet new)
   pub unchanged : IfOk made (λ o. (o.refused ≡ None → ⊥) → Untouched × (o.root ≡ root))
   pub cause : IsErrOf made stop.Device → Rose old.faults new.faults
+  pub fed : IsErrOf made stop.OutOfMemory → new.faults ≡ old.faults
   pub passes : OnOk made (new.faults ≡ old.faults)
   pub device_only : IsErrOf made stop.Device → IsOk (row (root_app root []))
   pub due : (e : PerError) → row (root_app root []) ≡ Err e → Due e → IsOk made

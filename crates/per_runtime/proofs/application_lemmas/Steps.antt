@@ -311,8 +311,9 @@ module _ (told : Bool) (rules : List Rule) (answers : Answers) (now : ℕ) (b : 
       (free : beside_update (worlds.update_in r.stage) c ≡ None) (time : Elapses old new)
       (within : IsTrue told → IsCallWithin rules answers b.app now r c (bytes_now old) (bytes_now new)) where
     pub failed_step : (e : Stop) → (e ≡ stop.Device → Rose old.faults new.faults)
+        → (e ≡ stop.OutOfMemory → new.faults ≡ old.faults)
         → Promises told rules answers now c before after' Untouched old new (Err e)
-    failed_step stop.Device cause = record {
+    failed_step stop.Device cause fed = record {
       app = app;
       memory = λ fed. marked_running told new.image b after' below app stage same_slots;
       answered = λ tells. tt;
@@ -334,12 +335,13 @@ module _ (told : Bool) (rules : List Rule) (answers : Answers) (now : ℕ) (b : 
       within = within;
       place = λ tells. names_none b.app c r no_storage old.image new.image;
       cause = λ bad. cause refl;
+      fed = λ bad. absurd cc;
       passes = tt;
       unfailed = tt;
       text = tt;
       time = time;
     }
-    failed_step stop.OutOfMemory cause = record {
+    failed_step stop.OutOfMemory cause fed = record {
       app = app;
       memory = λ fed. absurd (fed refl);
       answered = λ tells. tt;
@@ -359,6 +361,7 @@ module _ (told : Bool) (rules : List Rule) (answers : Answers) (now : ℕ) (b : 
       within = within;
       place = λ tells. names_none b.app c r no_storage old.image new.image;
       cause = λ bad. absurd cc;
+      fed = λ bad. fed refl;
       passes = tt;
       unfailed = tt;
       text = tt;
@@ -400,6 +403,7 @@ module _ (told : Bool) (rules : List Rule) (answers : Answers) (now : ℕ) (b : 
       within = within;
       place = λ tells. names_none b.app c r no_storage old.image new.image;
       cause = λ bad. absurd cc;
+      fed = λ bad. absurd cc;
       passes = passes;
       unfailed = sound;
       text = text;
@@ -421,13 +425,14 @@ module _ (told : Bool) (rules : List Rule) (answers : Answers) (now : ℕ) (b : 
       leaves
 
   pub next_failed : (e : Stop) (after' : Running) → after' ≡ record b { stage = ToOpen }
-      → (e ≡ stop.Device → Rose old.faults new.faults) → (IsTrue told → CallsTo b.app r.disk old new) → Elapses old new
+      → (e ≡ stop.Device → Rose old.faults new.faults) → (e ≡ stop.OutOfMemory → new.faults ≡ old.faults)
+      → (IsTrue told → CallsTo b.app r.disk old new) → Elapses old new
       → (IsTrue told → IsCallWithin rules answers b.app now r call.UpdateNext (bytes_now old) (bytes_now new))
       → Promises told rules answers now call.UpdateNext before after' Untouched old new (Err e)
-  next_failed e after' is_after cause calls time within = failed_step call.UpdateNext after'
+  next_failed e after' is_after cause fed calls time within = failed_step call.UpdateNext after'
       (ap (λ (x : Running). x.app) is_after) (ap (λ (x : Running). x.stage) is_after)
       (subst (λ (x : Running). NoneOpen x.slots) (sym is_after) none) r.disk (λ tells. inl refl) (λ tells. still r.disk)
-      calls next_reaches refl refl refl refl refl time within e cause
+      calls next_reaches refl refl refl refl refl time within e cause fed
 
   pub next_done : (t : Staged) (count : ℕ) → staged_progress t ≡ one_more (staged_progress s)
       → count ≡ remaining (staged_progress t) → StagedAt told new.image b.app t
@@ -479,10 +484,11 @@ module _ (told : Bool) (rules : List Rule) (answers : Answers) (now : ℕ) (b : 
     next = updated_app (staged_progress s) r.disk
 
     pub commit_failed : (e : Stop) (after' : Running) → after' ≡ record b { stage = ToOpen }
-        → (e ≡ stop.Device → Rose old.faults new.faults) → (IsTrue told → CallsTo b.app next old new) → Elapses old new
+        → (e ≡ stop.Device → Rose old.faults new.faults) → (e ≡ stop.OutOfMemory → new.faults ≡ old.faults)
+        → (IsTrue told → CallsTo b.app next old new) → Elapses old new
         → (IsTrue told → IsCallWithin rules answers b.app now r call.UpdateCommit (bytes_now old) (bytes_now new))
         → Promises told rules answers now call.UpdateCommit before after' Untouched old new (Err e)
-    commit_failed e after' is_after cause calls time within = failed_step call.UpdateCommit after'
+    commit_failed e after' is_after cause fed calls time within = failed_step call.UpdateCommit after'
         (ap (λ (x : Running). x.app) is_after) (ap (λ (x : Running). x.stage) is_after)
         (subst (λ (x : Running). NoneOpen x.slots) (sym is_after) none) next
         (λ tells. inr (
@@ -491,7 +497,7 @@ module _ (told : Bool) (rules : List Rule) (answers : Answers) (now : ℕ) (b : 
           refl,
         ))
         (λ tells. update_later (staged_progress s) r.disk) calls commit_reaches refl refl refl refl refl time within e
-        cause
+        cause fed
 
     pub commit_done : (root : Root) → RootAt told new.image b.app root → (IsTrue told → app_at new.image b.app ≡ next)
         → (IsTrue told → CallsTo b.app next old new)

@@ -141,6 +141,7 @@ module _ (told : Bool) (rules : List Rule) (answers : Answers) (now : ℕ) (c : 
     within = within_by (device_storage c) refl;
     place = s.place;
     cause = cause_of result s;
+    fed = fed_of result s;
     passes = passes_of result s;
     unfailed = unfailed_of result s;
     text = text_of result s;

@@ -1,5 +1,5 @@
 -- An update in one call, and the beginning of one in steps.
-use Rattle.std.proofs.Common.{◌≡◌, ◌≢◌, ◌≤◌, ◌+◌, ℕ, List, [], ◌∷◌, length, Bool, true, IsTrue, Option, Some, None}
+use Rattle.std.proofs.Common.{◌≡◌, ◌≢◌, ◌≤◌, ◌+◌, ℕ, List, [], Bool, true, IsTrue, Option, Some, None}
 use Rattle.std.proofs.Common.{IfOk, IsErrOf, IsOk, OnOk, is_ok, Result, Ok, Err, refl, sym, ap, ◌∙◌, subst, inl, inr}
 use Rattle.std.proofs.Common.{true≢false, arith}
 use Rattle.std.specs.Prelude.{map}
@@ -8,7 +8,6 @@ use Rattle.per_base.specs.declared.errors.PerError.{PerError}
 use Rattle.per_base.specs.declared.errors.PerError.TheVariants as error
 use Rattle.disk_model.specs.Image.{Image}
 use Rattle.disk_model.specs.Medium.{Elapses, IsIdle, Medium, Quiet}
-use Rattle.deployment_model.specs.Data.{StorageData}
 use Rattle.element_state.specs.States.{State, store_at}
 use Rattle.migrate_fns.specs.Rules.{Answers, Rule}
 use Rattle.command_text.specs.declared.calls.Call.{Call}
@@ -36,15 +35,14 @@ use Rattle.deploy_laws.specs.Stands.{IsLater, StandsThroughout}
 use Rattle.deploy_rows.specs.Laws.{RefusesAlike, UpdateLaterLaw}
 use Rattle.deploy_rows.specs.Rows as rows
 use Rattle.deploy_rows.specs.Costs.{manifests_at, storages_said}
-use Rattle.deploy_rows.specs.Rows.{◌>>=◌, BeginsUpdate, BeginsWith, InProgress, Offer, after, deployment_of}
-use Rattle.deploy_rows.specs.Rows.{newer_version}
+use Rattle.deploy_rows.specs.Rows.{◌>>=◌, BeginsUpdate, BeginsWith, InProgress, Offer, after}
 use Rattle.deploy_rows.specs.Rows.{offer_over, offered, updated_app}
 use Rattle.run_model.specs.Calls.{active_storages, answered, first_open, least_open, concluded}
 use Rattle.run_model.specs.Calls.{with_update}
-use Rattle.run_model.specs.Costs.{opening_cost, update_cost}
+use Rattle.run_model.specs.Costs.{update_cost}
 use Rattle.run_model.specs.Runtimes.{IsUnwritten, is_refusal}
 use Rattle.run_model.specs.Turns.{bytes_now}
-use Rattle.run_model.specs.WriteLaws.{call_unwritten}
+use Rattle.run_model.specs.WriteLaws.{call_opened, call_unwritten}
 use Rattle.run_model.specs.Worlds.{Application}
 use Rattle.run_model.specs.Worlds as worlds
 use Rattle.run_model.specs.Writes.{CostsUpdate, IsCallWithin, IsInNone, next_bank}
@@ -63,7 +61,7 @@ use Rattle.per_runtime.proofs.application_lemmas.Kept.{free_kept, free_slots, no
 use Rattle.per_runtime.proofs.application_lemmas.LeadOn.{still}
 use Rattle.per_runtime.proofs.application_lemmas.Plain.{begins_plain}
 use Rattle.per_runtime.proofs.application_lemmas.Rowed.{ok_alike}
-use Rattle.per_runtime.proofs.application_lemmas.Within.{most, same_bank}
+use Rattle.per_runtime.proofs.application_lemmas.Within.{same_bank}
 
 -- ---- an offer that is taken
 
@@ -102,6 +100,7 @@ pub record Updates (told : Bool) (rules : List Rule) (answers : Answers) (now : 
   pub unchanged : IfOk made (λ o. (o.refused ≡ None → ⊥)
       → (new.image ≡ old.image) × (new.written ≡ old.written) × (o.root ≡ root))
   pub cause : IsErrOf made stop.Device → Rose old.faults new.faults
+  pub fed : IsErrOf made stop.OutOfMemory → new.faults ≡ old.faults
   pub passes : OnOk made (new.faults ≡ old.faults)
   pub device_only : IsErrOf made stop.Device → IsOk (offered busy text (root_app root []))
   pub outside : Leaves told (IsBesideNext app (free_bank root)) old new
@@ -165,18 +164,14 @@ module _ (told : Bool) (rules : List Rule) (answers : Answers) (now : ℕ) (text
 
   module _ (keeps : manifests_at old.image b.app ≡ root_texts root) (tells : IsTrue told) where
     costs_by : making.WritesUpdate told (BeginsUpdate rules answers now busy text) b.app root text old new
-        → CostsUpdate rules answers now (manifests_at old.image b.app) r text
-        (old.written + opening_cost (manifests_at old.image b.app) r.stage) new.written
+        → CostsUpdate rules answers now (manifests_at old.image b.app) r text old.written new.written
     costs_by (inl none) = inl (omega (arith, none))
     costs_by (inr begun) =
         let p = begun.1 in
         inr (
           p,
           begins_there tells begun.0 (Ok p) (begun.2 tells) begun.3,
-          most old.written new.written (opening_cost (manifests_at old.image b.app) r.stage)
-              (update_cost (manifests_at old.image b.app) text p)
-              (subst (λ (kept : List (List ℕ)). new.written ≤ old.written + update_cost kept text p) (sym keeps)
-              begun.4),
+          subst (λ (kept : List (List ℕ)). new.written ≤ old.written + update_cost kept text p) (sym keeps) begun.4,
         )
 
     bank_is : next_bank r.disk.says ≡ free_bank root
@@ -185,13 +180,11 @@ module _ (told : Bool) (rules : List Rule) (answers : Answers) (now : ℕ) (text
     within_by : making.WritesUpdate told (BeginsUpdate rules answers now busy text) b.app root text old new
         → Leaves told (making.IsBesideMade b.app (shapes_from b.app (free_bank root) 0 (storages_said text))) old new
         → IsCallWithin rules answers b.app now r (call.Update text) (bytes_now old) (bytes_now new)
-    within_by cost leaves = record {
-      costs = costs_by cost;
-      files = λ file beside. leaves.at_the_end tells file (
-        beside.0,
-        subst (λ (bank : ℕ). IsInNone (shapes_from b.app bank 0 (storages_said text)) file) bank_is beside.1,
-      );
-    }
+    within_by cost leaves = call_opened rules answers b.app now r (call.Update text) (bytes_now old) (bytes_now new)
+        (costs_by cost) (λ file beside. leaves.at_the_end tells file (
+          beside.0,
+          subst (λ (bank : ℕ). IsInNone (shapes_from b.app bank 0 (storages_said text)) file) bank_is beside.1,
+        ))
 
   -- ---- in one call
 
@@ -303,6 +296,7 @@ module _ (told : Bool) (rules : List Rule) (answers : Answers) (now : ℕ) (text
         within = within;
         place = λ tells. names_none b.app (call.Update text) r refl old.image new.image;
         cause = λ bad. absurd cc;
+        fed = λ bad. absurd cc;
         passes = u.passes;
         unfailed = (plain o.refused refl).0;
         text = (plain o.refused refl).1;
@@ -343,6 +337,7 @@ module _ (told : Bool) (rules : List Rule) (answers : Answers) (now : ℕ) (text
         within = within;
         place = λ tells. names_none b.app (call.Update text) r refl old.image new.image;
         cause = λ bad. u.cause refl;
+        fed = λ bad. absurd cc;
         passes = tt;
         unfailed = tt;
         text = tt;
@@ -372,6 +367,7 @@ module _ (told : Bool) (rules : List Rule) (answers : Answers) (now : ℕ) (text
         within = within;
         place = λ tells. names_none b.app (call.Update text) r refl old.image new.image;
         cause = λ bad. absurd cc;
+        fed = λ bad. u.fed refl;
         passes = tt;
         unfailed = tt;
         text = tt;
@@ -408,6 +404,7 @@ pub record Beginning (told : Bool) (rules : List Rule) (answers : Answers) (now 
   pub written : new.written ≡ old.written
   pub idle : Quiet old → IsIdle old new
   pub cause : IsErrOf made stop.Device → Rose old.faults new.faults
+  pub fed : IsErrOf made stop.OutOfMemory → new.faults ≡ old.faults
   pub passes : OnOk made (new.faults ≡ old.faults)
   pub device_only : IsErrOf made stop.Device → IsOk (offered busy text (root_app root []))
   pub any_moment : IsTrue told → StandsThroughout app (app_at old.image app) old new
@@ -490,6 +487,7 @@ module _ (told : Bool) (rules : List Rule) (answers : Answers) (now : ℕ) (text
         x.written;
     place = λ tells. names_none b.app c here refl old.image new.image;
     cause = λ bad. absurd cc;
+    fed = λ bad. absurd cc;
     passes = x.passes;
     unfailed = λ e. cc;
     text = tt;
@@ -541,6 +539,7 @@ module _ (told : Bool) (rules : List Rule) (answers : Answers) (now : ℕ) (text
         x.written;
     place = λ tells. names_none b.app c here refl old.image new.image;
     cause = λ bad. absurd cc;
+    fed = λ bad. absurd cc;
     passes = x.passes;
     unfailed = (begins_plain rules answers now busy text (root_app root x.begins.0) (Err e) x.begins.2).sound;
     text = (begins_plain rules answers now busy text (root_app root x.begins.0) (Err e) x.begins.2).text;
@@ -575,6 +574,7 @@ module _ (told : Bool) (rules : List Rule) (answers : Answers) (now : ℕ) (text
             x.written;
         place = λ tells. names_none b.app c here refl old.image new.image;
         cause = λ bad. x.cause refl;
+        fed = λ bad. absurd cc;
         passes = tt;
         unfailed = tt;
         text = tt;
@@ -605,6 +605,7 @@ module _ (told : Bool) (rules : List Rule) (answers : Answers) (now : ℕ) (text
             x.written;
         place = λ tells. names_none b.app c here refl old.image new.image;
         cause = λ bad. absurd cc;
+        fed = λ bad. x.fed refl;
         passes = tt;
         unfailed = tt;
         text = tt;

@@ -76,6 +76,7 @@ pub record Closes (told : Bool) (storage : Open) (old new : Medium) (Same : Type
       → OnOk result (IsClean (stores.store_shape (store_in storage)) new.image)
   pub at_most : WritesAtMost storage old new
   pub cause : IsErrOf result Device → Rose old.faults new.faults
+  pub fed : IsErrOf result OutOfMemory → new.faults ≡ old.faults
   pub passes : OnOk result (new.faults ≡ old.faults)
   pub storing : IsStoring told (stores.store_shape (store_in storage)) (Opens (durable_view storage) []) old new
 
@@ -220,6 +221,7 @@ module _ (laws : StorageLaws) (texts : TextLaw) (told : Bool) (app now : ℕ) (r
           there_is c (close_refused storage) after refl refl closed_row named_so reaches
           new Same idle written costs storing is emptied e (none_of (close_refused storage) (never_due e err))
           (λ device. closes.cause (err ∙ ap (λ (x : Stop). Err x) device))
+          (λ starved. closes.fed (err ∙ ap (λ (x : Stop). Err x) starved))
 
       pub closed_ok : (left : Closing) → result ≡ Ok left → (mid is : OpenSlots) → IsSet l.number None was mid
           → (reply : Reply) → LeavesSlot l.number left mid is reply

@@ -95,6 +95,7 @@ pub record Makes (told : Bool) (storage : Open) (refused : Option PerError) (old
       → OnOk result (IsClean (stores.store_shape (store_in storage)) new.image)
   pub at_most : WritesAtMost storage old new
   pub cause : IsErrOf result Device → Rose old.faults new.faults
+  pub fed : IsErrOf result OutOfMemory → new.faults ≡ old.faults
   pub passes : OnOk result (new.faults ≡ old.faults)
   pub storing : IsStoring told (stores.store_shape (store_in storage)) (Opens (durable_view storage) []) old new
 
@@ -245,9 +246,9 @@ module _ (laws : StorageLaws) (texts : TextLaw) (told : Bool) (app now : ℕ) (r
 
       -- memory ran out, or the device failed
       pub stopped_handled : (is : OpenSlots) → IsSet l.number None was is → (e : Stop) → refused ≡ None
-          → (e ≡ Device → Rose old.faults new.faults)
+          → (e ≡ Device → Rose old.faults new.faults) → (e ≡ OutOfMemory → new.faults ≡ old.faults)
           → IsStorageCallHandled told app now root c was is old new Same (Err e)
-      stopped_handled is emptied Device none cause = record {
+      stopped_handled is emptied Device none cause fed = record {
         ends = lost laws told app now root c was is old new l located resting next storing
             (λ tells. reaches tells (answered answer.Done after) (row_ok none tells)) (leads none) named emptied
             (cause refl);
@@ -258,9 +259,12 @@ module _ (laws : StorageLaws) (texts : TextLaw) (told : Bool) (app now : ℕ) (r
         missing = missing;
         time = storing.time;
       }
-      stopped_handled is emptied OutOfMemory none cause = record {
-        ends = stopped laws told app now root c was is old new l located resting next storing
-            (λ tells. inl (reaches tells (answered answer.Done after) (row_ok none tells))) (leads none);
+      stopped_handled is emptied OutOfMemory none cause fed = record {
+        ends = (
+          fed refl,
+          stopped laws told app now root c was is old new l located resting next storing
+              (λ tells. inl (reaches tells (answered answer.Done after) (row_ok none tells))) (leads none),
+        );
         idle = idle;
         written = written;
         costs = costs;

@@ -99,13 +99,15 @@ module _ (laws : StorageLaws) (told : Bool) (app now : ℕ) (root : Root) (c : C
   pub starved_handled : (IsTrue told → CallNeedsMemory app now c (resting_with m.image app was)) → (is : OpenSlots)
       → IsStorageCallHandled told app now root c was is m m Same (Err OutOfMemory)
   starved_handled needs is = record {
-    ends = λ tells. record {
-      needs = needs tells;
-      next = app_at m.image app;
-      leads = inl refl;
-      calls =
-          idle_calls laws told m law app resting.below;
-    };
+    ends = (
+      refl,
+      λ tells. record {
+        needs = needs tells;
+        next = app_at m.image app;
+        leads = inl refl;
+        calls = idle_calls laws told m law app resting.below;
+      },
+    );
     idle = λ tells idle. same;
     written = λ tells. none_written app c (resting_with m.image app was) m;
     costs = λ tells. none_costs app now c (resting_with m.image app was) m;

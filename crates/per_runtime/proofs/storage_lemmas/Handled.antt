@@ -56,7 +56,7 @@ module _ {told : Bool} {app now : ℕ} {root : Root} {c : Call} {was is : OpenSl
       → HasStorageCallStopped app now c (resting_with old.image app was) old new
   stopped_of (Ok reply) handled tells err = absurd cc
   stopped_of (Err Device) handled tells err = absurd cc
-  stopped_of (Err OutOfMemory) handled tells err = handled.ends tells
+  stopped_of (Err OutOfMemory) handled tells err = handled.ends.1 tells
 
   pub memory_of : (result : Result Reply Stop) → IsStorageCallHandled told app now root c was is old new Same result
       → (IsErrOf result OutOfMemory → ⊥)
@@ -86,6 +86,12 @@ module _ {told : Bool} {app now : ℕ} {root : Root} {c : Call} {was is : OpenSl
       → OnOk result (new.faults ≡ old.faults)
   passes_of (Ok reply) handled = handled.ends.passes
   passes_of (Err e) handled = tt
+
+  pub fed_of : (result : Result Reply Stop) → IsStorageCallHandled told app now root c was is old new Same result
+      → IsErrOf result OutOfMemory → new.faults ≡ old.faults
+  fed_of (Ok reply) handled err = absurd cc
+  fed_of (Err Device) handled err = absurd cc
+  fed_of (Err OutOfMemory) handled err = handled.ends.0
 
   pub unfailed_of : (result : Result Reply Stop) → IsStorageCallHandled told app now root c was is old new Same result
       → IfOk result (λ reply. reply.answer ≢ answer.Error error.PhysicalStorageFailure)

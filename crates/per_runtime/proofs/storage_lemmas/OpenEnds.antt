@@ -163,8 +163,9 @@ module _ (laws : StorageLaws) (told : Bool) (app now : ℕ) (root : Root) (kind 
 
     -- the device failed, or memory ran out
     pub open_failed : (stop : Stop) → (stop ≡ Device → Rose old.faults new.faults)
+        → (stop ≡ OutOfMemory → new.faults ≡ old.faults)
         → IsStorageCallHandled told app now root (open_call kind name) was was old new Same (Err stop)
-    open_failed Device rose = record {
+    open_failed Device rose fed = record {
       ends = lost laws told app now root (open_call kind name) was was old new l located resting
           (store_at old.image (shape_at l)) (storing (store_at old.image (shape_at l)))
           (λ tells. open_reaches app now before kind name (storage_opened app before f f.state) refl (row tells))
@@ -177,11 +178,14 @@ module _ (laws : StorageLaws) (told : Bool) (app now : ℕ) (root : Root) (kind 
       missing = missing;
       time = (storing (store_at old.image (shape_at l))).time;
     }
-    open_failed OutOfMemory rose = record {
-      ends = stopped laws told app now root (open_call kind name) was was old new l located resting
-          (store_at old.image (shape_at l)) (storing (store_at old.image (shape_at l)))
-          (λ tells. inl (open_reaches app now before kind name (storage_opened app before f f.state) refl (row tells)))
-          (λ tells. inl (same_app tells));
+    open_failed OutOfMemory rose fed = record {
+      ends = (
+        fed refl,
+        stopped laws told app now root (open_call kind name) was was old new l located resting
+            (store_at old.image (shape_at l)) (storing (store_at old.image (shape_at l)))
+            (λ tells. inl (open_reaches app now before kind name (storage_opened app before f f.state) refl (row tells)))
+            (λ tells. inl (same_app tells)),
+      );
       idle = never_idle;
       written = λ tells. none_due;
       costs = costs;

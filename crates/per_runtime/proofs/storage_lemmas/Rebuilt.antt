@@ -75,6 +75,7 @@ pub record Rebuilds (told : Bool) (shape : Shape) (row : State → Result State 
       → IsClean shape new.image)
   pub quiet : OnOk result (Quiet new)
   pub cause : IsErrOf result Device → Rose old.faults new.faults
+  pub fed : IsErrOf result OutOfMemory → new.faults ≡ old.faults
   pub passes : OnOk result (new.faults ≡ old.faults)
   pub outside : Leaves told (IsOutside shape.place) old new
   pub any_moment : IsTrue told → KeptThroughout shape (after_state (store_at old.image shape)
@@ -210,8 +211,11 @@ module _ (laws : StorageLaws) (texts : TextLaw) (told : Bool) (app now : ℕ) (r
       time = rebuilds.time;
     }
     rebuilt_err OutOfMemory err = record {
-      ends = stopped laws told app now root c was was old new l located resting next storing
-          (λ tells. inl (reaches tells)) leads;
+      ends = (
+        rebuilds.fed err,
+        stopped laws told app now root c was was old new l located resting next storing
+            (λ tells. inl (reaches tells)) leads,
+      );
       idle = idle;
       written = written;
       costs = costs;

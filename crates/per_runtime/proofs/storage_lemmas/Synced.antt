@@ -174,6 +174,7 @@ module _ (laws : StorageLaws) (texts : TextLaw) (told : Bool) (app now : ℕ) (r
         new Same idle written costs storing is emptied e
         (err_not_due told storage refused old new Same result e makes err)
         (λ device. makes.cause (err ∙ ap (λ (x : Stop). Err x) device))
+        (λ starved. makes.fed (err ∙ ap (λ (x : Stop). Err x) starved))
 
     -- it was answered
     pub made_ok : (made : Durable) → result ≡ Ok made → (mid is : OpenSlots) → IsSet l.number None was mid → (reply : Reply)

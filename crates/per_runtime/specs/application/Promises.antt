@@ -49,6 +49,7 @@ pub record Promises (told : Bool) (rules : List Rule) (answers : Answers) (now :
   pub place : IsTrue told → StaysInPlace before.app c (application old.image before) old.image new.image
   pub cause : IsErrOf result stop.Device → Rose old.faults new.faults
   pub passes : OnOk result (new.faults ≡ old.faults)
+  pub fed : IsErrOf result stop.OutOfMemory → new.faults ≡ old.faults
   -- that the device failed is no reply, and every reply has a text
   pub unfailed : IfOk result (λ reply. reply.answer ≢ answer.Error error.PhysicalStorageFailure)
   pub text : IfOk result (λ reply. HasText reply.answer)

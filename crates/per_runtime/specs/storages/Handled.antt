@@ -72,8 +72,8 @@ abbrev pub EndsSo : (told : Bool) (app now : ℕ) (root : Root) (c : Call) (was 
     → Result Reply Stop → Type 0
 EndsSo told app now root c was is old new (Ok reply) = IsStorageCallReplied told app now root c was is old new reply
 EndsSo told app now root c was is old new (Err Device) = IsLost told app now root c was is old new
-EndsSo told app now root c was is old new (Err OutOfMemory) =
-    IsTrue told → HasStorageCallStopped app now c (resting_with old.image app was) old new
+EndsSo told app now root c was is old new (Err OutOfMemory) = (new.faults ≡ old.faults)
+    × (IsTrue told → HasStorageCallStopped app now c (resting_with old.image app was) old new)
 
 -- A call on a storage of an application at rest, from these slots to those; that it called no disk is said by `Same`.
 pub record IsStorageCallHandled (told : Bool) (app now : ℕ) (root : Root) (c : Call) (was is : OpenSlots)

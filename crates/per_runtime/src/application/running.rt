@@ -1,13 +1,12 @@
 //! What is kept in memory of one application, and its calls.
 
-ghost use Rattle.std.specs.Prelude.{◌≡◌, ◌≤◌, ◌<◌, ◌+◌, ℕ, List, Bool, IfOk, IsErrOf, IsTrue};
+ghost use Rattle.std.specs.Prelude.{◌≡◌, ◌≤◌, ◌<◌, ◌+◌, Bool, IfOk, IsErrOf, IsTrue};
 ghost use Rattle.std.specs.Prelude.{None, Ok, OnOk, Some, false, true};
 ghost use Rattle.per_base.specs.Causes.{Rose};
 ghost use Rattle.disk_model.specs.Frame.{Spares};
 ghost use Rattle.disk_model.specs.Image.{Image};
 ghost use Rattle.disk_model.specs.Medium.{Elapses, Quiet};
 ghost use Rattle.disk_model.specs.Place.{IsNoSlot};
-ghost use Rattle.guarded_cell.specs.Register.{IsAlone};
 ghost use Rattle.migrate_fns.specs.Stored.{answers_of, rules_of};
 ghost use Rattle.deploy_laws.specs.Apps.{App, app_at};
 ghost use Rattle.deploy_laws.specs.Places.{root_place};
@@ -15,9 +14,10 @@ ghost use Rattle.deploy_laws.specs.Stands.{IsLater};
 ghost use Rattle.deploy_rows.specs.Costs.{greatest_cost, manifests_at, root_cost};
 ghost use Rattle.run_model.specs.AppLaws.{OpensRoot};
 ghost use Rattle.run_model.specs.Calls.{beside_update};
-ghost use Rattle.run_model.specs.Runtimes.{IsUnwritten};
 ghost use Rattle.run_model.specs.Steps.{calls_device};
+ghost use Rattle.run_model.specs.Turns.{bytes_now};
 ghost use Rattle.run_model.specs.Worlds.{at_rest, is_to_open, none_open, to_open, update_in};
+ghost use Rattle.run_model.specs.Writes.{IsWholeRoot};
 ghost use Rattle.per_runtime.specs.Sorting.{asked_call, deploying_call};
 ghost use Rattle.per_runtime.specs.storages.Answers.{CallsTo};
 ghost use Rattle.per_runtime.specs.application.Promises.{Promises};
@@ -114,9 +114,8 @@ impl Running {
         ensures failed { (e : Stop) → IsErrOf result e → running_in self.new ≡ running_in self.old }
         ensures root { IsTrue D.told → OnOk result (OpensRoot self.old.app (D.medium disk.old) (D.medium disk.new)) }
         // Where every copy of the root holds one text and no other is held, nothing is written, however it ends.
-        ensures already { IsTrue D.told → (generation : ℕ) (text : List ℕ)
-            → IsAlone (D.medium disk.old).image (root_place self.old.app) generation text
-            → IsUnwritten (D.medium disk.old) (D.medium disk.new) }
+        ensures already { IsTrue D.told → IsWholeRoot (D.medium disk.old).image self.old.app
+            → bytes_now (D.medium disk.new) ≡ bytes_now (D.medium disk.old) }
         // However it ends: at every moment the application stands between what it was and any later state, no file of
         // another changes, and of its own none but slots of the root.
         ensures on_the_way { IsTrue D.told → (next : App) → IsLater (app_at (D.medium disk.old).image self.old.app) next
@@ -130,6 +129,7 @@ impl Running {
         ensures quiet { OnOk result (Quiet (D.medium disk.new)) }
         ensures cause { IsErrOf result Stop.Device → Rose (D.medium disk.old).faults (D.medium disk.new).faults }
         ensures passes { OnOk result ((D.medium disk.new).faults ≡ (D.medium disk.old).faults) }
+        ensures fed { IsErrOf result Stop.OutOfMemory → (D.medium disk.new).faults ≡ (D.medium disk.old).faults }
         ensures time { Elapses (D.medium disk.old) (D.medium disk.new) }
     {
         roots_in_use();

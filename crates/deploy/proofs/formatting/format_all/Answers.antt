@@ -61,6 +61,9 @@ returns-clause-clean g c = λ tells app lt.
     empty_clean (g.D.Disk.medium c.loop-app.disk).image app (c.loop-app.invariant.empty tells app (omega (arith, lt)))
     c.one_root.ensures.again c.roots_say.ensures.clean
 
+pub returns-clause-alone : goal.returns-clause-alone
+returns-clause-alone g c = λ tells app lt. c.loop-app.invariant.empty tells app (omega (arith, lt))
+
 pub returns-clause-quiet : goal.returns-clause-quiet
 returns-clause-quiet g c = c.loop-app.invariant.quiet (inl (omega arith))
 

@@ -2,20 +2,19 @@ use Rattle.element_store.specs.declared.store.Store.{Store}
 use Rattle.std.proofs.Common.{◌≡◌, ◌∙◌, ◌+◌, ◌*◌, ◌≤◌, ℕ, List, [], length, IsTrue, refl, sym, ap, subst, arith}
 use Rattle.per_base.specs.declared.elements.Fresh.{Fresh}
 use Rattle.std.specs.List.{AllZip}
-use Rattle.disk_model.specs.Case.{Case}
-use Rattle.disk_model.specs.Medium.{EachCase}
 use Rattle.disk_model.specs.Laws.{elapses_on}
 use Rattle.disk_model.specs.lemmas.Places.{outside_no_slot}
 use Rattle.index_text.specs.lemmas.Lengths.{text_is_short}
 use Rattle.index_text.specs.Spelling.{index_text}
-use Rattle.element_store.specs.Creates.{IsUntorn}
+use Rattle.element_store.specs.Creates.{fresh_length}
 use Rattle.element_store.specs.Plans.{IsWrittenEntry, blocks_of_all}
 use Rattle.element_store.specs.Spelled.{IsTextOf, ShowsFresh}
 use Rattle.element_store.proofs.Ruled.{blocks_enough}
 use Rattle.element_store.proofs.RebuiltKept.{rebuilding_opens, contents_elsewhere, index_elsewhere}
 use Rattle.element_store.proofs.GivenUp.{kept_names_nothing, untorn_sound, still_untorn, given_up_outside}
-use Rattle.element_store.proofs.GivenUp.{given_up_untorn, put_elsewhere, put_outside, put_untorn, made_outside}
-use Rattle.element_store.proofs.GivenUp.{made_untorn, most_kept, most_put, made_written, most_made}
+use Rattle.element_store.proofs.GivenUp.{given_up_untorn, put_outside, put_untorn, made_outside}
+use Rattle.element_store.proofs.GivenUp.{made_untorn, most_kept, most_put, most_made}
+use Rattle.element_store.proofs.Lengths.{made_length}
 use Rattle.element_store.proofs.Taken.{taken_below, taken_area}
 use Rattle.element_store.proofs.Created.{created_clean, created_used, created_shows}
 use Rattle.element_store.proofs.creating.create.Goals as goal
@@ -289,12 +288,14 @@ returns-clause-opens g c = λ tells. rebuilding_opens (g.D.Disk.medium c.put_con
 
 pub returns-in_err-keep_only-clause-at_most : goal.returns-in_err-keep_only-clause-at_most
 returns-in_err-keep_only-clause-at_most g c =
-    most_kept c.args.shape.place.copies (blocks_of_all c.args.contents.items) (g.D.Disk.medium c.args.disk.now).written
+    most_kept c.args.shape.place.copies (blocks_of_all c.args.contents.items)
+    (fresh_length c.args.shape.kind c.args.contents.items) (g.D.Disk.medium c.args.disk.now).written
     (g.D.Disk.medium c.keep_only.new.disk).written c.in_err-keep_only.ensures.clears.written
 
 pub returns-in_err-spelled-clause-at_most : goal.returns-in_err-spelled-clause-at_most
 returns-in_err-spelled-clause-at_most g c =
-    most_put c.args.shape.place.copies (blocks_of_all c.args.contents.items) (g.D.Disk.medium c.args.disk.now).written
+    most_put c.args.shape.place.copies (blocks_of_all c.args.contents.items)
+    (fresh_length c.args.shape.kind c.args.contents.items) (g.D.Disk.medium c.args.disk.now).written
     (g.D.Disk.medium c.keep_only.new.disk).written c.in_ok-keep_only.ensures.clears.written
     (g.D.Disk.medium c.put_contents.new.disk).written
     (subst (λ (fs : List Fresh). (g.D.Disk.medium c.put_contents.new.disk).written
@@ -303,7 +304,8 @@ returns-in_err-spelled-clause-at_most g c =
 
 pub returns-in_err-taken-clause-at_most : goal.returns-in_err-taken-clause-at_most
 returns-in_err-taken-clause-at_most g c =
-    most_put c.args.shape.place.copies (blocks_of_all c.args.contents.items) (g.D.Disk.medium c.args.disk.now).written
+    most_put c.args.shape.place.copies (blocks_of_all c.args.contents.items)
+    (fresh_length c.args.shape.kind c.args.contents.items) (g.D.Disk.medium c.args.disk.now).written
     (g.D.Disk.medium c.keep_only.new.disk).written c.in_ok-keep_only.ensures.clears.written
     (g.D.Disk.medium c.put_contents.new.disk).written
     (subst (λ (fs : List Fresh). (g.D.Disk.medium c.put_contents.new.disk).written
@@ -312,7 +314,8 @@ returns-in_err-taken-clause-at_most g c =
 
 pub returns-in_err-entries-clause-at_most : goal.returns-in_err-entries-clause-at_most
 returns-in_err-entries-clause-at_most g c =
-    most_put c.args.shape.place.copies (blocks_of_all c.args.contents.items) (g.D.Disk.medium c.args.disk.now).written
+    most_put c.args.shape.place.copies (blocks_of_all c.args.contents.items)
+    (fresh_length c.args.shape.kind c.args.contents.items) (g.D.Disk.medium c.args.disk.now).written
     (g.D.Disk.medium c.keep_only.new.disk).written c.in_ok-keep_only.ensures.clears.written
     (g.D.Disk.medium c.put_contents.new.disk).written
     (subst (λ (fs : List Fresh). (g.D.Disk.medium c.put_contents.new.disk).written
@@ -322,55 +325,45 @@ returns-in_err-entries-clause-at_most g c =
 pub returns-in_err-cell-clause-at_most : goal.returns-in_err-cell-clause-at_most
 returns-in_err-cell-clause-at_most g c =
     let fit = c.in_ok-spelled.ensures.fit in
-    let short = text_is_short c.args.shape.kind c.args.shape.allowed c.in_ok-spelled.spelled.index fit.rules fit.fits
-    c.requires.shape.small in
-    let a = ap length c.as_slice-2.ensures in
-    let b = ap length fit.spelled in
-    most_made c.args.shape.place.copies (blocks_of_all c.args.contents.items) (g.D.Disk.medium c.args.disk.now).written
+    let text : c.as_slice-2.result.now ≡ index_text c.in_ok-spelled.spelled.index =
+    c.as_slice-2.ensures ∙ fit.spelled in
+    let long = made_length c.args.shape 1 c.args.contents.items c.deref.result.now c.in_ok-spelled.spelled.text
+    c.in_ok-spelled.spelled.index c.deref.ensures.value fit c.in_ok-spelled.ensures.format
+    c.in_ok-spelled.ensures.made in
+    most_made c.args.shape.place.copies (blocks_of_all c.args.contents.items)
+    (fresh_length c.args.shape.kind c.args.contents.items) (g.D.Disk.medium c.args.disk.now).written
     (g.D.Disk.medium c.keep_only.new.disk).written c.in_ok-keep_only.ensures.clears.written
     (g.D.Disk.medium c.put_contents.new.disk).written
     (subst (λ (fs : List Fresh). (g.D.Disk.medium c.put_contents.new.disk).written
     ≤ (g.D.Disk.medium c.keep_only.new.disk).written + c.args.shape.place.copies * (256 * blocks_of_all fs))
     c.deref.ensures.value c.in_ok-spelled.ensures.written)
     (length c.as_slice-2.result.now) (g.D.Disk.medium c.format_cell.new.disk).written
-    c.in_err-cell.ensures.formats.written
-    (omega (arith, short, a, b))
+    (ap (λ (bytes : List ℕ). length bytes) text ∙ long) c.in_err-cell.ensures.formats.written
 
 pub returns-clause-at_most : goal.returns-clause-at_most
 returns-clause-at_most g c =
     let fit = c.in_ok-spelled.ensures.fit in
-    let short = text_is_short c.args.shape.kind c.args.shape.allowed c.in_ok-spelled.spelled.index fit.rules fit.fits
-    c.requires.shape.small in
-    let a = ap length c.as_slice-2.ensures in
-    let b = ap length fit.spelled in
-    most_made c.args.shape.place.copies (blocks_of_all c.args.contents.items) (g.D.Disk.medium c.args.disk.now).written
+    let text : c.as_slice-2.result.now ≡ index_text c.in_ok-spelled.spelled.index =
+    c.as_slice-2.ensures ∙ fit.spelled in
+    let long = made_length c.args.shape 1 c.args.contents.items c.deref.result.now c.in_ok-spelled.spelled.text
+    c.in_ok-spelled.spelled.index c.deref.ensures.value fit c.in_ok-spelled.ensures.format
+    c.in_ok-spelled.ensures.made in
+    most_made c.args.shape.place.copies (blocks_of_all c.args.contents.items)
+    (fresh_length c.args.shape.kind c.args.contents.items) (g.D.Disk.medium c.args.disk.now).written
     (g.D.Disk.medium c.keep_only.new.disk).written c.in_ok-keep_only.ensures.clears.written
     (g.D.Disk.medium c.put_contents.new.disk).written
     (subst (λ (fs : List Fresh). (g.D.Disk.medium c.put_contents.new.disk).written
     ≤ (g.D.Disk.medium c.keep_only.new.disk).written + c.args.shape.place.copies * (256 * blocks_of_all fs))
     c.deref.ensures.value c.in_ok-spelled.ensures.written)
     (length c.as_slice-2.result.now) (g.D.Disk.medium c.format_cell.new.disk).written
-    c.in_ok-cell.ensures.formats.written
-    (omega (arith, short, a, b))
+    (ap (λ (bytes : List ℕ). length bytes) text ∙ long) c.in_ok-cell.ensures.formats.written
 
-pub returns-clause-written : goal.returns-clause-written
-returns-clause-written g c =
-    let text_is : c.as_slice-2.result.now ≡ index_text c.in_ok-spelled.spelled.index =
-    c.as_slice-2.ensures ∙ c.in_ok-spelled.ensures.fit.spelled in
-    let written = made_written c.args.shape.place.copies (blocks_of_all c.args.contents.items)
-    (g.D.Disk.medium c.args.disk.now).written (g.D.Disk.medium c.keep_only.new.disk).written
-    c.in_ok-keep_only.ensures.clears.written (g.D.Disk.medium c.put_contents.new.disk).written
-    (subst (λ (fs : List Fresh). (g.D.Disk.medium c.put_contents.new.disk).written
-    ≤ (g.D.Disk.medium c.keep_only.new.disk).written + c.args.shape.place.copies * (256 * blocks_of_all fs))
-    c.deref.ensures.value c.in_ok-spelled.ensures.written)
-    (length c.as_slice-2.result.now) (g.D.Disk.medium c.format_cell.new.disk).written
-    c.in_ok-cell.ensures.formats.written in
-    subst (λ (s : Store). (g.D.Disk.medium c.format_cell.new.disk).written
-    ≤ (g.D.Disk.medium c.args.disk.now).written + c.args.shape.place.copies
-    * (256 * (blocks_of_all c.args.contents.items) + length (index_text s.index) + 5 * 44)) (sym c.new-3.ensures)
-    (subst (λ (t : List ℕ). (g.D.Disk.medium c.format_cell.new.disk).written
-    ≤ (g.D.Disk.medium c.args.disk.now).written + c.args.shape.place.copies
-    * (256 * (blocks_of_all c.args.contents.items) + length t + 5 * 44)) text_is written)
+pub returns-clause-text : goal.returns-clause-text
+returns-clause-text g c = subst (λ (s : Store). length (index_text s.index)
+    ≡ fresh_length c.args.shape.kind c.args.contents.items) (sym c.new-3.ensures)
+    (made_length c.args.shape 1 c.args.contents.items c.deref.result.now c.in_ok-spelled.spelled.text
+    c.in_ok-spelled.spelled.index c.deref.ensures.value c.in_ok-spelled.ensures.fit
+    c.in_ok-spelled.ensures.format c.in_ok-spelled.ensures.made)
 
 pub returns-in_err-cell-clause-time : goal.returns-in_err-cell-clause-time
 returns-in_err-cell-clause-time g c =

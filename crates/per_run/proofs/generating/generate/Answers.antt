@@ -16,7 +16,7 @@ returns-in-Ok-clause-time g c = elapses_on c.start_formatted.ensures.time c.gene
 
 pub returns-in-Err-Device-clause-job : goal.returns-in-Err-Device-clause-job
 returns-in-Err-Device-clause-job g c = generates_none _ _ _ _ _ _ _ (inl refl) c.start_formatted.ensures.time.faults
-    c.start_formatted.ensures.within
+    (λ unfailed. absurd (unfailed refl)) c.start_formatted.ensures.within
 
 pub returns-in-Err-Device-clause-status : goal.returns-in-Err-Device-clause-status
 returns-in-Err-Device-clause-status g c = inr (inr (inl
@@ -24,7 +24,9 @@ returns-in-Err-Device-clause-status g c = inr (inr (inl
 
 pub returns-in-Err-OutOfMemory-clause-job : goal.returns-in-Err-OutOfMemory-clause-job
 returns-in-Err-OutOfMemory-clause-job g c = generates_none _ _ _ _ _ _ _ (inr refl)
-    c.start_formatted.ensures.time.faults c.start_formatted.ensures.within
+    c.start_formatted.ensures.time.faults
+    (λ unfailed. c.start_formatted.ensures.fed (c.in-Err-OutOfMemory.is ∙ ap Err c.in-Err-OutOfMemory.field-0-is))
+    c.start_formatted.ensures.within
 
 pub returns-in-Err-OutOfMemory-clause-status : goal.returns-in-Err-OutOfMemory-clause-status
 returns-in-Err-OutOfMemory-clause-status g c = inr (inl refl)

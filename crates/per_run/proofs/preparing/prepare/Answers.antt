@@ -1,5 +1,5 @@
 -- The runtime starts on the disk as it was, or on one that was formatted.
-use Rattle.std.proofs.Common.{inl, inr}
+use Rattle.std.proofs.Common.{inl, inr, ◌∙◌}
 use Rattle.disk_model.specs.Laws.{elapses_on, rose_before}
 use Rattle.per_run.proofs.Fresh.{formats_later}
 use Rattle.per_run.proofs.Prepared.{keeps_on, on_err, readied_as, readied_first, says_false, says_true}
@@ -25,6 +25,9 @@ pub returns-in-Ok-true-clause-cause : goal.returns-in-Ok-true-clause-cause
 returns-in-Ok-true-clause-cause g c = λ failed.
     rose_before _ _ _ c.is_blank.ensures.time.faults (c.start_formatted.ensures.cause failed)
 
+pub returns-in-Ok-true-clause-fed : goal.returns-in-Ok-true-clause-fed
+returns-in-Ok-true-clause-fed g c = λ failed. c.start_formatted.ensures.fed failed ∙ c.in-Ok-true.ensures.passes
+
 pub returns-in-Ok-true-clause-time : goal.returns-in-Ok-true-clause-time
 returns-in-Ok-true-clause-time g c = elapses_on c.is_blank.ensures.time c.start_formatted.ensures.time
 
@@ -45,6 +48,9 @@ returns-in-Ok-false-clause-unready g c = on_err c.start.result (inl (
 pub returns-in-Ok-false-clause-cause : goal.returns-in-Ok-false-clause-cause
 returns-in-Ok-false-clause-cause g c = λ failed.
     rose_before _ _ _ c.is_blank.ensures.time.faults (c.start.ensures.cause failed)
+
+pub returns-in-Ok-false-clause-fed : goal.returns-in-Ok-false-clause-fed
+returns-in-Ok-false-clause-fed g c = λ failed. c.start.ensures.fed failed ∙ c.in-Ok-false.ensures.passes
 
 pub returns-in-Ok-false-clause-time : goal.returns-in-Ok-false-clause-time
 returns-in-Ok-false-clause-time g c = elapses_on c.is_blank.ensures.time c.start.ensures.time

@@ -23,3 +23,4 @@ returns-in-Err-Device-clause-run g c = run_none c.applications_stand.ensures _ _
 pub returns-in-Err-OutOfMemory-clause-run : goal.returns-in-Err-OutOfMemory-clause-run
 returns-in-Err-OutOfMemory-clause-run g c = run_short c.applications_stand.ensures _ _ _ _ _ _ _ _ _
     (g.met.D.Disk.lawful _) c.start.ensures.time c.start.ensures.stopped refl
+    (c.start.ensures.fed (c.in-Err-OutOfMemory.is ∙ ap Err c.in-Err-OutOfMemory.field-0-is))

@@ -23,3 +23,4 @@ returns-in-Err-Device-clause-serves g c = serves_none c.applications_stand.ensur
 pub returns-in-Err-OutOfMemory-clause-serves : goal.returns-in-Err-OutOfMemory-clause-serves
 returns-in-Err-OutOfMemory-clause-serves g c = serves_short c.applications_stand.ensures g.D.Disk _ _ _ _ _ _
     _ (g.met.D.Disk.lawful _) c.prepare.ensures.time c.in-Err-OutOfMemory.ensures.unready
+    (c.prepare.ensures.fed (c.in-Err-OutOfMemory.is ∙ ap Err c.in-Err-OutOfMemory.field-0-is))

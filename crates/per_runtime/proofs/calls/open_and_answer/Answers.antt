@@ -1,4 +1,4 @@
-use Rattle.std.proofs.Common.{◌≡◌, Err, ap, inl, refl}
+use Rattle.std.proofs.Common.{◌≡◌, ◌∙◌, Err, ap, inl, refl}
 use Rattle.std.proofs.lemmas.Result.{err_from_is_err_and}
 use Rattle.disk_model.specs.Laws.{elapses_on}
 use Rattle.deploy.specs.declared.errors.Stop.{Stop}
@@ -26,6 +26,7 @@ returns-in_err-open_root g c =
           (said.failed c.in_err-open_root.field-0.0 refl) said.on_the_way
           (λ is. said.cause (ap (λ (s : Stop). Err s) is));
       needs = λ tells bad. inl (ap is_to_open c.requires.marked);
+      fed = said.fed;
       idle = λ tells. none_idle c.applications_stand.ensures.mend g.D.Disk.told (rules_of c.args.migrations.now)
           (answers_of c.args.migrations.now) c.args.now (asked_call c.args.asked.now) a c.open_root.new.self old mid
           c.requires.marked said.app closed _;
@@ -41,7 +42,8 @@ returns-in_err-open_root g c =
           (answers_of c.args.migrations.now) c.args.now (asked_call c.args.asked.now) a c.open_root.new.self old mid
           c.requires.marked said.app closed mid;
       within = λ tells. opened_alone g.D.Disk.told (rules_of c.args.migrations.now) (answers_of c.args.migrations.now)
-          c.args.now (asked_call c.args.asked.now) a old mid c.requires.marked (said.slots tells) (said.once tells);
+          c.args.now (asked_call c.args.asked.now) a old mid c.requires.marked (said.slots tells) (said.once tells)
+          (said.already tells);
       time = said.time;
     })
 
@@ -69,6 +71,7 @@ returns g c =
           c.requires.marked said.app closed said.opened said.quiet said.root c.call.new.self new then.time said.passes
           c.call.result said.time then.end;
       needs = λ tells bad. inl (ap is_to_open c.requires.marked);
+      fed = λ bad. then.fed bad ∙ said.passes;
       idle = λ tells. none_idle c.applications_stand.ensures.mend told rules answers c.args.now (asked_call
           c.args.asked.now) a b old
           mid c.requires.marked said.app closed _;

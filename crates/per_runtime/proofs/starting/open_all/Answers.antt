@@ -3,8 +3,8 @@ use Rattle.std.proofs.lemmas.Result.{err_from_is_err_and}
 use Rattle.disk_model.specs.Laws.{elapses_on, rose_before}
 use Rattle.deploy.specs.declared.errors.Stop.{Stop}
 use Rattle.run_model.specs.Starting.{opened_keeps}
-use Rattle.per_runtime.proofs.Begins.{all_begun, none_opened, once_at, one_opened, root_at, stopped_by, stops_at}
-use Rattle.per_runtime.proofs.Begins.{slots_at, some_written, unsynced_keeps, unsynced_written, way_at}
+use Rattle.per_runtime.proofs.Begins.{all_begun, already_at, none_opened, once_at, one_opened, root_at, stopped_by}
+use Rattle.per_runtime.proofs.Begins.{slots_at, some_written, stops_at, unsynced_keeps, unsynced_written, way_at}
 use Rattle.per_runtime.proofs.Places.{on_err, on_ok}
 use Rattle.per_runtime.proofs.starting.open_all.Goals as goal
 
@@ -31,7 +31,7 @@ returns-in_err-running g c =
     let p = err_from_is_err_and c.from_residual.result c.from_residual.ensures.1 in
     let it = c.loop-app.invariant in
     rw (p.1, p.2) (record {
-      end = tt;
+      end = it.passes;
       keeps = λ tells. opened_keeps c.applications_stand.ensures c.loop-app.app (g.D.Disk.medium c.args.disk.now)
           (g.D.Disk.medium c.loop-app.disk) (omega arith) (it.opened tells);
       written = some_written _ _ _ c.loop-app.app (omega arith) it.written (omega arith);
@@ -50,13 +50,16 @@ returns-in_err-open_root g c =
     rw (p.1, p.2) (record {
       end = stopped_by g.D.Disk.told old new c.in_err-open_root.field-0.0
           (λ is. rose_before old.faults now.faults new.faults it.time.faults
-          (said.cause (ap (λ (s : Stop). Err s) is)));
+          (said.cause (ap (λ (s : Stop). Err s) is)))
+          (λ is. said.fed (ap (λ (s : Stop). Err s) is) ∙ it.passes);
       keeps = λ tells. stops_at c.applications_stand.ensures g.D.Disk.told c.loop-app.app old now new lt
           (g.met.D.Disk.lawful c.open_root.new.disk) (it.opened tells) said.time
           (way_at c.in_ok-running.running.app c.loop-app.app now new c.in_ok-running.ensures.app
           (said.on_the_way tells))
           (slots_at c.in_ok-running.running.app c.loop-app.app now new c.in_ok-running.ensures.app (said.slots tells))
-          (once_at c.in_ok-running.running.app c.loop-app.app now new c.in_ok-running.ensures.app (said.once tells));
+          (once_at c.in_ok-running.running.app c.loop-app.app now new c.in_ok-running.ensures.app (said.once tells))
+          (already_at c.in_ok-running.running.app c.loop-app.app now new c.in_ok-running.ensures.app
+          (said.already tells));
       written = some_written _ _ _ c.loop-app.app lt it.written said.written;
       time = elapses_on it.time said.time;
     })
@@ -71,13 +74,15 @@ returns-in_err-push g c =
     let new = g.D.Disk.medium c.open_root.new.disk in
     let said = c.in_ok-open_root.ensures in
     rw (p.1, p.2) (record {
-      end = tt;
+      end = said.passes ∙ it.passes;
       keeps = λ tells. stops_at c.applications_stand.ensures g.D.Disk.told c.loop-app.app old now new lt
           (g.met.D.Disk.lawful c.open_root.new.disk) (it.opened tells) said.time
           (way_at c.in_ok-running.running.app c.loop-app.app now new c.in_ok-running.ensures.app
           (said.on_the_way tells))
           (slots_at c.in_ok-running.running.app c.loop-app.app now new c.in_ok-running.ensures.app (said.slots tells))
-          (once_at c.in_ok-running.running.app c.loop-app.app now new c.in_ok-running.ensures.app (said.once tells));
+          (once_at c.in_ok-running.running.app c.loop-app.app now new c.in_ok-running.ensures.app (said.once tells))
+          (already_at c.in_ok-running.running.app c.loop-app.app now new c.in_ok-running.ensures.app
+          (said.already tells));
       written = some_written _ _ _ c.loop-app.app lt it.written said.written;
       time = elapses_on it.time said.time;
     })

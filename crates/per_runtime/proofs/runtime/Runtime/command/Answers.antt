@@ -24,6 +24,7 @@ returns-in-Now g c =
             doubt is;
       };
       needs = λ tells bad. absurd cc;
+      fed = λ bad. absurd cc;
       idle = λ tells none. refl;
       time = elapses_none lawful;
     })

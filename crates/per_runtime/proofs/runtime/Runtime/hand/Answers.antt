@@ -53,6 +53,7 @@ returns-in-Ok g c =
             c.in-Ok.reply is.end tells doubt in_doubt;
       };
       needs = λ tells bad. absurd cc;
+      fed = λ bad. absurd cc;
       idle = left_alone c.applications_stand.ensures c.running_is_application.ensures c.running_stays.ensures rules
           answers told old new r.now c.args.app (asked_call c.args.asked.now) r.apps.items a a' r.in_doubt
           c.requires.app c.requires.memory.apps c.requires.memory.quiet here c.requires.sure _ reads _ is;
@@ -96,6 +97,7 @@ returns-in-Err-Device g c =
             (g.met.D.Disk.lawful c.answer.new.disk) tells doubt in_doubt;
       };
       needs = λ tells bad. absurd cc;
+      fed = λ bad. absurd cc;
       idle = left_alone c.applications_stand.ensures c.running_is_application.ensures c.running_stays.ensures rules
           answers told old new r.now c.args.app (asked_call c.args.asked.now) r.apps.items a a' r.in_doubt
           c.requires.app c.requires.memory.apps c.requires.memory.quiet here c.requires.sure _ reads _ is;
@@ -130,6 +132,7 @@ returns-in-Err-OutOfMemory g c =
           r.in_doubt
           c.requires.app c.requires.memory.apps c.requires.memory.quiet here c.requires.sure _ reads _ is
           (is.needs tells (ap (λ (x : Stop). Err x) c.in-Err-OutOfMemory.field-0-is));
+      fed = λ bad. is.fed (ap (λ (x : Stop). Err x) c.in-Err-OutOfMemory.field-0-is);
       idle = left_alone c.applications_stand.ensures c.running_is_application.ensures c.running_stays.ensures rules
           answers told old new r.now c.args.app (asked_call c.args.asked.now) r.apps.items a a' r.in_doubt
           c.requires.app c.requires.memory.apps c.requires.memory.quiet here c.requires.sure _ reads _ is;

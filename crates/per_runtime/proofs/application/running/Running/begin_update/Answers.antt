@@ -88,6 +88,7 @@ returns g c =
       written = c.begin_update-begun.ensures.written;
       idle = c.begin_update-begun.ensures.idle;
       cause = c.begin_update-begun.ensures.cause;
+      fed = c.begin_update-begun.ensures.fed;
       passes = c.begin_update-begun.ensures.passes;
       device_only = c.begin_update-begun.ensures.device_only;
       any_moment = c.begin_update-begun.ensures.any_moment;

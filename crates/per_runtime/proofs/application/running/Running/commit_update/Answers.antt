@@ -82,7 +82,8 @@ returns-in_err-root g c = λ now.
     (commit_failed told rules answers now s t old new (c.commit_update.new.disk ≡ c.args.disk.now) at.0
     c.requires.memory.below at.1 c.roots_in_use.ensures.app c.rows_lead_on.ensures.update
     e taken c.in-Some.ensures.left (λ is. c.commit_update.ensures.cause
-    (c.in_err-root.was ∙ ap (λ (x : Stop). Err x) is)) calls c.commit_update.ensures.time
+    (c.in_err-root.was ∙ ap (λ (x : Stop). Err x) is))
+    (λ is. c.commit_update.ensures.fed (c.in_err-root.was ∙ ap (λ (x : Stop). Err x) is)) calls c.commit_update.ensures.time
     (commit_written told rules answers now s t old new (c.commit_update.new.disk ≡ c.args.disk.now) at.0
     c.requires.memory.below at.1 c.roots_in_use.ensures.app
     (λ tells. c.roots_in_use.ensures.manifests old.image s.app (staged_root t) at.0.memory.root (at.0.root_on tells))

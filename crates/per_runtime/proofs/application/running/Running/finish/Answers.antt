@@ -51,6 +51,7 @@ returns g c = λ now.
       quiet = c.finish-made.ensures.quiet;
       unchanged = c.finish-made.ensures.unchanged;
       cause = c.finish-made.ensures.cause;
+      fed = λ bad. ap (λ d. (g.D.Disk.medium d).faults) (c.finish-made.ensures.memory bad);
       passes = c.finish-made.ensures.passes;
       device_only = c.finish-made.ensures.device_only;
       due = λ e is none. c.finish-made.ensures.due e is;

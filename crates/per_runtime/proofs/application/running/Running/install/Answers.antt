@@ -77,6 +77,7 @@ returns g c =
       quiet = c.install-made.ensures.quiet;
       unchanged = c.install-made.ensures.unchanged;
       cause = c.install-made.ensures.cause;
+      fed = c.install-made.ensures.fed;
       passes = c.install-made.ensures.passes;
       device_only = c.install-made.ensures.device_only;
       due = c.install-made.ensures.due;

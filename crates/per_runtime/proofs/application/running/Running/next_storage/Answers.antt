@@ -74,7 +74,8 @@ returns-in_err-staged g c = λ now.
     (next_failed told rules answers now s t old new (c.next_storage.new.disk ≡ c.args.disk.now) at.0
     c.requires.memory.below at.1 c.roots_in_use.ensures.app
     e taken c.in-Some.ensures.left (λ is. c.next_storage.ensures.cause
-    (c.in_err-staged.was ∙ ap (λ (x : Stop). Err x) is)) calls c.next_storage.ensures.time
+    (c.in_err-staged.was ∙ ap (λ (x : Stop). Err x) is))
+    (λ is. c.next_storage.ensures.fed (c.in_err-staged.was ∙ ap (λ (x : Stop). Err x) is)) calls c.next_storage.ensures.time
     (next_written told rules answers now s t old new (c.next_storage.new.disk ≡ c.args.disk.now) at.0
     c.requires.memory.below at.1 c.roots_in_use.ensures.app c.next_storage.ensures.written
     (subst (λ n. Leaves told (IsInNone (take 1 (drop (staged_progress t).built (shapes_in n (offered_in t))))) old new)

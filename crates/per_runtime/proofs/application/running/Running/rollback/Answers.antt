@@ -97,6 +97,7 @@ returns g c = λ now.
       quiet = c.rollback-made.ensures.quiet;
       unchanged = c.rollback-made.ensures.unchanged;
       cause = c.rollback-made.ensures.cause;
+      fed = λ bad. ap (λ d. (g.D.Disk.medium d).faults) (c.rollback-made.ensures.memory bad);
       passes = c.rollback-made.ensures.passes;
       device_only = c.rollback-made.ensures.device_only;
       due = λ e is early. c.rollback-made.ensures.due e is (or_unnamed c.as_ref.result early);

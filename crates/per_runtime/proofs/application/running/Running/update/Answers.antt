@@ -94,6 +94,7 @@ returns g c =
       quiet = c.update-made.ensures.quiet;
       unchanged = c.update-made.ensures.unchanged;
       cause = c.update-made.ensures.cause;
+      fed = c.update-made.ensures.fed;
       passes = c.update-made.ensures.passes;
       device_only = c.update-made.ensures.device_only;
       outside = c.update-made.ensures.outside;

@@ -91,6 +91,7 @@ returns g c = λ now.
       quiet = c.wipe-made.ensures.quiet;
       unchanged = c.wipe-made.ensures.unchanged;
       cause = c.wipe-made.ensures.cause;
+      fed = λ bad. ap (λ d. (g.D.Disk.medium d).faults) (c.wipe-made.ensures.memory bad);
       passes = c.wipe-made.ensures.passes;
       device_only = c.wipe-made.ensures.device_only;
       due = λ e is none. c.wipe-made.ensures.due e is (unnamed c.as_ref.result none);

@@ -76,6 +76,7 @@ returns-in-Ok-close g c = λ now.
           c.close.ensures.clean;
       at_most = c.close.ensures.at_most;
       cause = c.close.ensures.cause;
+      fed = λ bad. ap (λ d. (g.D.Disk.medium d).faults) (c.close.ensures.fed bad);
       passes = c.close.ensures.passes;
       storing =
           c.close.ensures.storing;
@@ -106,6 +107,7 @@ returns-in-Err-close g c = λ now.
           c.close.ensures.clean;
       at_most = c.close.ensures.at_most;
       cause = c.close.ensures.cause;
+      fed = λ bad. ap (λ d. (g.D.Disk.medium d).faults) (c.close.ensures.fed bad);
       passes = c.close.ensures.passes;
       storing =
           c.close.ensures.storing;

@@ -82,6 +82,7 @@ returns-in-Ok-flush g c = λ now.
       at_most = c.flush.ensures.at_most;
       cause =
           c.flush.ensures.cause;
+      fed = λ bad. ap (λ d. (g.D.Disk.medium d).faults) (c.flush.ensures.fed bad);
       passes = c.flush.ensures.passes;
       storing = c.flush.ensures.storing;
     })
@@ -115,6 +116,7 @@ returns-in-Err-flush g c = λ now.
       at_most = c.flush.ensures.at_most;
       cause =
           c.flush.ensures.cause;
+      fed = λ bad. ap (λ d. (g.D.Disk.medium d).faults) (c.flush.ensures.fed bad);
       passes = c.flush.ensures.passes;
       storing = c.flush.ensures.storing;
     })

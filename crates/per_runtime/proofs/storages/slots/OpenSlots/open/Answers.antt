@@ -153,7 +153,7 @@ returns-in-Err-is_corrupt g c = λ now.
     c.in-Ok.ensures.found c.in-Ok.ensures.named closed new (c.open_storage.new.disk ≡ c.args.disk.now) storing
     (λ tells. opened_costs m new l c.in-Ok-shape.shape placed_so c.in-Ok-shape.ensures.configured.copies
     (c.open_storage.ensures.written tells))
-    _ (λ e. absurd cc)
+    _ (λ e. absurd cc) (λ e. c.in-Ok-Corrupt.ensures.passes)
 
 pub returns-in-Err-open_storage : goal.returns-in-Err-open_storage
 returns-in-Err-open_storage g c = λ now.
@@ -172,3 +172,4 @@ returns-in-Err-open_storage g c = λ now.
     (c.open_storage.ensures.written tells))
     c.in-Err-open_storage.stop (λ e. c.open_storage.ensures.cause
     (c.in-Err-open_storage.is ∙ ap (λ (s : Stop). Err s) e))
+    (λ e. c.open_storage.ensures.fed (c.in-Err-open_storage.is ∙ ap (λ (s : Stop). Err s) e))

@@ -111,6 +111,7 @@ returns-in-Ok-recover_storage g c =
       quiet =
           made.quiet;
       cause = made.cause;
+      fed = made.fed;
       passes = made.passes;
       outside = made.outside;
       any_moment = made.any_moment;
@@ -149,6 +150,7 @@ returns g c =
       quiet =
           made.quiet;
       cause = made.cause;
+      fed = made.fed;
       passes = made.passes;
       outside = made.outside;
       any_moment = made.any_moment;

@@ -109,6 +109,7 @@ returns-in-Ok-reset_storage g c =
       quiet =
           made.quiet;
       cause = made.cause;
+      fed = made.fed;
       passes = made.passes;
       outside = made.outside;
       any_moment = made.any_moment;
@@ -145,6 +146,7 @@ returns g c =
       quiet =
           made.quiet;
       cause = made.cause;
+      fed = made.fed;
       passes = made.passes;
       outside = made.outside;
       any_moment = made.any_moment;

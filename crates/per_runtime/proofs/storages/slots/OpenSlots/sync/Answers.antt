@@ -88,6 +88,7 @@ returns-in-Ok-sync g c = λ now.
       at_most = c.sync.ensures.at_most;
       cause =
           c.sync.ensures.cause;
+      fed = λ bad. ap (λ d. (g.D.Disk.medium d).faults) (c.sync.ensures.fed bad);
       passes = c.sync.ensures.passes;
       storing = c.sync.ensures.storing;
     })
@@ -121,6 +122,7 @@ returns-in-Err-sync g c = λ now.
       at_most = c.sync.ensures.at_most;
       cause =
           c.sync.ensures.cause;
+      fed = λ bad. ap (λ d. (g.D.Disk.medium d).faults) (c.sync.ensures.fed bad);
       passes = c.sync.ensures.passes;
       storing = c.sync.ensures.storing;
     })
