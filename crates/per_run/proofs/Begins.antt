@@ -84,7 +84,7 @@ run_none laws told converters status left taken source_failures sink_failures ol
   gives = refl;
   ends = record { no_line = refl; no_turn = refl; wrote = Appends-nil taken };
   cause = rose;
-  failures = record { last = old.faults; blamed = refl; later = time.faults; passes = λ over. absurd over };
+  failures = record { last = old.faults; blamed = refl; later = time.faults; passes = λ apart. absurd (apart refl) };
   time = time;
   disk = λ tells. start_disk laws converters.rules converters.answers endings.device taken taken told old new lawful
       time (λ begun. begun) (keeps tells);
@@ -109,7 +109,7 @@ run_short laws told converters status left taken source_failures sink_failures o
   gives = refl;
   ends = record { no_line = refl; no_turn = refl; wrote = Appends-nil taken };
   cause = fed;
-  failures = record { last = old.faults; blamed = refl; later = time.faults; passes = λ over. absurd over };
+  failures = record { last = old.faults; blamed = refl; later = time.faults; passes = λ apart. fed };
   time = time;
   disk = λ tells. start_disk laws converters.rules converters.answers endings.start_memory taken taken told old new lawful
       time (λ begun. begun) (keeps tells);

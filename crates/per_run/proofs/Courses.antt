@@ -49,6 +49,7 @@ stopped_front whole front s = record {
   spelled =
       front_says _ whole (line.Event s.event) front s.spelled;
   stopped = s.stopped;
+  fed = s.fed;
 }
 
 -- nothing failed after the last command
@@ -231,7 +232,7 @@ module _ (told : Bool) (rules : List Rule) (answers : Answers) (start : Medium) 
       last = old.faults;
       blamed = handled.goes.blamed;
       later = time.faults;
-      passes = λ over. absurd over;
+      passes = λ apart. s.fed;
     };
     disk = λ tells.
         let g : IsGoing rules answers start handled.turns memory old = handled.goes.disk tells in

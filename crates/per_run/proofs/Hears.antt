@@ -223,7 +223,7 @@ module _ (told : Bool) (rules : List Rule) (answers : Answers) (start : Medium) 
       last = old.faults;
       blamed = hearing.goes.blamed;
       later = time.faults;
-      passes = λ over. absurd over;
+      passes = λ apart. s.fed;
     };
     disk = λ tells.
         let g : IsGoing rules answers start (turns_in heard) memory old = hearing.goes.disk tells in

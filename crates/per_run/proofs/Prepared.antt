@@ -235,7 +235,7 @@ serve_none laws told converters endings.device status left taken source_failures
       are = tt;
       ends = record { no_line = refl; wrote = Appends-nil taken };
       cause = cause;
-      failures = record { last = old.faults; blamed = refl; later = time.faults; passes = λ over. absurd over };
+      failures = record { last = old.faults; blamed = refl; later = time.faults; passes = λ apart. absurd (apart refl) };
       time = time;
       disk = λ tells. start_disk laws converters.rules converters.answers endings.device None None told old new lawful
           time (λ begun. begun) (keeps tells);
@@ -253,7 +253,7 @@ serve_none laws told converters endings.start_memory status left taken source_fa
       are = tt;
       ends = record { no_line = refl; wrote = Appends-nil taken };
       cause = cause;
-      failures = record { last = old.faults; blamed = refl; later = time.faults; passes = λ over. absurd over };
+      failures = record { last = old.faults; blamed = refl; later = time.faults; passes = λ apart. cause };
       time = time;
       disk = λ tells. start_disk laws converters.rules converters.answers endings.start_memory None None told old new
           lawful time (λ begun. begun) (keeps tells);

@@ -1,7 +1,7 @@
 -- What a run that stays promises: its input has no bound, a line outside the grammar is answered and changes nothing,
 -- and an empty disk is formatted first.
-use Rattle.std.specs.Prelude.{◌≡◌, ◌⊎◌, ◌≤◌, ◌<◌, ◌+◌, ◌*◌, ◌-◌, ◌^◌, min, ℕ, List, [], ◌∷◌, ◌++◌, length, map, take}
-use Rattle.std.specs.Prelude.{Option, None, Bool, false, IsTrue, IsFalse, codes, ⊤}
+use Rattle.std.specs.Prelude.{◌≡◌, ◌≢◌, ◌⊎◌, ◌≤◌, ◌<◌, ◌+◌, ◌*◌, ◌-◌, ◌^◌, min, ℕ, List, [], ◌∷◌, ◌++◌, length, map}
+use Rattle.std.specs.Prelude.{take, Option, None, Bool, false, IsTrue, IsFalse, codes, ⊤}
 use Rattle.std.specs.List.{AllByRecursion, flat_map}
 use Rattle.std.specs.Io.KnownBytes.{Appends, Consumes, IsAtEnd, Keeps}
 use Rattle.per_base.specs.Causes.{Rose}
@@ -16,7 +16,7 @@ use Rattle.deploy_laws.specs.Apps.{IsCleanApp}
 use Rattle.deploy_rows.specs.Costs.{format_cost}
 use Rattle.run_model.specs.Edges.{Converters, Edges, failures_at, modelled}
 use Rattle.run_model.specs.Endings as endings
-use Rattle.run_model.specs.Endings.{Ending, HasCauseOf, HasEnded, bad_line_text, ending_status}
+use Rattle.run_model.specs.Endings.{Ending, HasCauseOf, bad_line_text, ending_status}
 use Rattle.run_model.specs.Lines.{IsBad, lines_of}
 use Rattle.run_model.specs.Moments.{last_of}
 use Rattle.run_model.specs.Runs.{DiskSide, IsSettled, without_sink}
@@ -158,7 +158,7 @@ pub record Serve (told : Bool) (converters : Converters) (status : ℕ) (before 
       → IsSettled (last_of (after_start (world_at before.disk.image)) (worlds_of (turns_in heard))) after.disk)
       ending heard (lines_of false given) before.taken after.taken
   pub cause : HasCauseOf ending (failures_at before) (failures_at after)
-  pub failures : CountsFailures (HasEnded ending) before.disk.faults (turns_in heard) after.disk.faults
+  pub failures : CountsFailures (ending ≢ endings.device) before.disk.faults (turns_in heard) after.disk.faults
   pub time : Elapses before.disk after.disk
   pub disk : IsTrue told → DiskSide converters ending
       (without_sink (lines_in heard) (lines_of false given) (turns_in heard)) before.disk after.disk

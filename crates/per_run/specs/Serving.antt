@@ -1,6 +1,6 @@
 -- What the parts of a run that stays keep, from line to line and from byte to byte.
-use Rattle.std.specs.Prelude.{◌≡◌, ◌⊎◌, ℕ, List, [], ◌∷◌, ◌++◌, length, take, min, ◌-◌, ◌^◌, Option, None, Bool, true}
-use Rattle.std.specs.Prelude.{false, IsTrue}
+use Rattle.std.specs.Prelude.{◌≡◌, ◌≢◌, ◌⊎◌, ℕ, List, [], ◌∷◌, ◌++◌, length, take, min, ◌-◌, ◌^◌, Option, None, Bool}
+use Rattle.std.specs.Prelude.{true, false, IsTrue}
 use Rattle.std.specs.List.{AllByRecursion, flat_map}
 use Rattle.std.specs.Io.KnownBytes.{Appends, Consumes, IsAtEnd}
 use Rattle.disk_model.specs.Medium.{Medium, Elapses}
@@ -60,7 +60,7 @@ pub record Service (told : Bool) (rules : List Rule) (answers : Answers) (ending
   pub ends : ServesBy (IsTrue told
       → IsSettled (last_of (after_start (world_at start.image)) (worlds_of (turns_in heard))) medium)
       ending heard all before now
-  pub failures : CountsFailures (endings.HasEnded ending) start.faults (turns_in heard) medium.faults
+  pub failures : CountsFailures (ending ≢ endings.device) start.faults (turns_in heard) medium.faults
   pub disk : IsTrue told → DiskSide (record { rules = rules; answers = answers }) ending
       (without_sink (lines_in heard) all (turns_in heard)) start medium
 

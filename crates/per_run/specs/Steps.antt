@@ -1,8 +1,8 @@
 -- What the parts of a run keep, from line to line and from byte to byte. Of bytes `before` and `now` are what the sink
 -- took before and has taken now, `left_before` and `left_now` what the source has left, each None where nothing is said
 -- of it. `rules` are the converters of values between types, and `answers` what each may answer.
-use Rattle.std.specs.Prelude.{◌≡◌, ◌⊎◌, ◌≤◌, ◌<◌, ◌+◌, ◌*◌, ℕ, List, [], ◌∷◌, ◌++◌, length, take, Option, None, Bool}
-use Rattle.std.specs.Prelude.{false}
+use Rattle.std.specs.Prelude.{◌≡◌, ◌≢◌, ◌⊎◌, ◌≤◌, ◌<◌, ◌+◌, ◌*◌, ℕ, List, [], ◌∷◌, ◌++◌, length, take, Option, None}
+use Rattle.std.specs.Prelude.{Bool, false}
 use Rattle.std.specs.Prelude.{IsTrue, Result, Ok, Err, IsErrOf, IfErr, count_by, ⊤}
 use Rattle.std.specs.List.{AllByRecursion, flat_map}
 use Rattle.std.specs.Io.KnownBytes.{Appends, Consumes, IsAtEnd}
@@ -95,13 +95,14 @@ pub record IsLineAnswered (told : Bool) (rules : List Rule) (answers : Answers) 
   pub stepped : IsTrue told → (doubt : Option Doubt) → IsDoubt before doubt
       → Stepped rules answers event reply before after doubt old new
 
--- memory ran out in the command of the line
+-- memory ran out in the command of the line, in which no call of the disk had failed
 pub record IsStopped (told : Bool) (rules : List Rule) (answers : Answers) (text : List ℕ) (before : Memory)
     (old new : Medium) : Type 0 where
   pub event : Event
   pub spelled : IsLine text (line.Event event)
   pub stopped : IsTrue told → (doubt : Option Doubt) → IsDoubt before doubt
       → Stopped rules answers event before doubt old new
+  pub fed : new.faults ≡ old.faults
 
 -- what came of a line, from the memory and the disk before it to those after it
 abbrev pub IsLineOutcome : {D : Type 0} → (told : Bool) → (medium : D → Medium) → List Rule → Answers → (text : List ℕ)
@@ -149,7 +150,7 @@ pub record Course (told : Bool) (rules : List Rule) (answers : Answers) (ending 
   pub turns : List Turn
   pub gives : Give lines (events_of turns)
   pub ends : EndsBy ending lines all turns before now
-  pub failures : CountsFailures (endings.HasEnded ending) start.faults turns medium.faults
+  pub failures : CountsFailures (ending ≢ endings.device) start.faults turns medium.faults
   pub disk : IsTrue told → DiskSide (record { rules = rules; answers = answers }) ending
       (record { lines = lines; all = all; turns = turns; before = before; now = now }) start medium
 

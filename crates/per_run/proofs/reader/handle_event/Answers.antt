@@ -34,7 +34,12 @@ pub returns-in-Err-clause-ends : goal.returns-in-Err-clause-ends
 returns-in-Err-clause-ends g c = λ laws start before lines others text spelled handled.
     course_short _ _ _ _ before g.D.Disk.medium laws lines others _ _ _ _ text (g.met.D.Disk.lawful _)
     c.step.ensures.time handled
-    (inr (record { event = c.args.event.now; spelled = spelled; stopped = c.in-Err.ensures.stopped }))
+    (inr (record {
+      event = c.args.event.now;
+      spelled = spelled;
+      stopped = c.in-Err.ensures.stopped;
+      fed = c.in-Err.ensures.fed;
+    }))
 
 pub returns-in-Ok-clause-needs : goal.returns-in-Ok-clause-needs
 returns-in-Ok-clause-needs g c = λ told starved text spelled. inr (
