@@ -269,7 +269,8 @@ pub record Rebuild : Type 0 where
 pub record Makes (told : Bool) (rebuild : Rebuild) (status : ℕ) (before after : Outputs) : Type 0 where
   pub it : App
   pub seen : IsAppSeen told before.disk.image rebuild.app it
-  pub answers : AnswersOr (λ made. codes "ok\n") (importing_into it rebuild.name rebuild.text) status before.taken after.taken
+  pub answers : AnswersOr (λ made. codes "ok\n") (importing_into it rebuild.name rebuild.text) status before.taken
+      after.taken
   pub refused : CameToOutput status → IsErr (importing_into it rebuild.name rebuild.text)
       → LooksOnly before.disk after.disk
   pub imported : IsTrue told → CameToOutput status
