@@ -9,7 +9,7 @@ use Rattle.command_text.specs.Generated.{generated}
 use Rattle.deploy_laws.specs.Apps.{App, app_at}
 use Rattle.deploy_rows.specs.Costs.{format_cost}
 use Rattle.deploy_rows.specs.Rows.{empty_app}
-use Rattle.run_model.specs.Bounds.{AreBounded, bytes_after}
+use Rattle.run_model.specs.Bounds.{AreBounded}
 use Rattle.run_model.specs.Edges.{Converters}
 use Rattle.run_model.specs.Endings as endings
 use Rattle.run_model.specs.Endings.{AfterSome, InReply}
@@ -19,7 +19,7 @@ use Rattle.run_model.specs.Runs as runs
 use Rattle.run_model.specs.Runs.{DiskSide, Handling, IsSettled, Progress, Reach, between, starting, without_sink}
 use Rattle.run_model.specs.Runtimes.{IsNoRoot, Memory}
 use Rattle.run_model.specs.Turns.{AreBlamed, DiskBytes, Follow, Turn, bytes_now, replies_of, worlds_of}
-use Rattle.run_model.specs.Worlds.{Application, Disks, World, after_start, all_resting, formatted, resting, world_at}
+use Rattle.run_model.specs.Worlds.{Application, World, after_start, all_resting, formatted, resting, world_at}
 use Rattle.run_model.specs.Writes.{AreWholeRoots}
 use Rattle.per_run.specs.declared.tally.Tally.{Tally}
 use Rattle.per_run.specs.Jobs.{BeginWith, FailsAtThree, Formats, Generates, IsLeftBy, WritesOutput, outputs}

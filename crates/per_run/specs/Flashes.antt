@@ -1,6 +1,6 @@
 -- What a run over raw flash promises: how the flash was opened as a disk, the job on that disk, and what a stop leaves
 -- of the flash.
-use Rattle.std.specs.Prelude.{◌≡◌, ◌⊎◌, ◌<◌, ◌≤◌, ℕ, List, Option, None, Some, Bool, IsTrue, ⊤}
+use Rattle.std.specs.Prelude.{◌≡◌, ◌⊎◌, ◌<◌, ◌≤◌, ℕ, Option, None, Some, Bool, IsTrue, ⊤}
 use Rattle.per_base.specs.Causes.{Rose}
 use Rattle.disk_model.specs.Medium.{Quiet, Elapses}
 use Rattle.disk_model.specs.declared.disk.Disk.{Ghosts as DiskOf}

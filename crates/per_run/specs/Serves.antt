@@ -1,7 +1,7 @@
 -- What a run that stays promises: its input has no bound, a line outside the grammar is answered and changes nothing,
 -- and an empty disk is formatted first.
 use Rattle.std.specs.Prelude.{◌≡◌, ◌≢◌, ◌⊎◌, ◌≤◌, ◌<◌, ◌+◌, ◌*◌, ◌-◌, ◌^◌, min, ℕ, List, [], ◌∷◌, ◌++◌, length, map}
-use Rattle.std.specs.Prelude.{take, Option, None, Bool, false, IsTrue, IsFalse, codes, ⊤}
+use Rattle.std.specs.Prelude.{take, Option, Bool, false, IsTrue, IsFalse, codes, ⊤}
 use Rattle.std.specs.List.{AllByRecursion, flat_map}
 use Rattle.std.specs.Io.KnownBytes.{Appends, Consumes, IsAtEnd, Keeps}
 use Rattle.per_base.specs.Causes.{Rose}

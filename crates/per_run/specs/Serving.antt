@@ -1,5 +1,5 @@
 -- What the parts of a run that stays keep, from line to line and from byte to byte.
-use Rattle.std.specs.Prelude.{◌≡◌, ◌≢◌, ◌⊎◌, ℕ, List, [], ◌∷◌, ◌++◌, length, take, min, ◌-◌, ◌^◌, Option, None, Bool}
+use Rattle.std.specs.Prelude.{◌≡◌, ◌≢◌, ◌⊎◌, ℕ, List, [], ◌∷◌, ◌++◌, length, take, min, ◌-◌, ◌^◌, Option, Bool}
 use Rattle.std.specs.Prelude.{true, false, IsTrue}
 use Rattle.std.specs.List.{AllByRecursion, flat_map}
 use Rattle.std.specs.Io.KnownBytes.{Appends, Consumes, IsAtEnd}

@@ -1,5 +1,5 @@
 -- The job of the words is done; or they say none; or there was no memory for them.
-use Rattle.std.proofs.Common.{Err, ap, refl}
+use Rattle.std.proofs.Common.{Err, ap}
 use Rattle.per_run.specs.declared.words.Job.{Job}
 use Rattle.per_run.proofs.Caused.{complete_none, completes_if, done_none, each_is, job_within, none_is, not_one}
 use Rattle.per_run.proofs.Caused.{short_caused, some_is, some_none, unread_none}
