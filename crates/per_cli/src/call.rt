@@ -11,7 +11,7 @@ use crate::saying::{Screen, say, say_awaited};
 use crate::{NO_DISK, NO_INPUT, REFUSED_CALL, REFUSED_WORDS, program};
 use command_text::LineError;
 use memchr::memchr;
-use per_reasons::{dots_after, why_no_call, word_shown};
+use per_reasons::{dots_after, text_shown, why_no_call};
 use per_run::{JobKind, WordsError, read_words};
 use per_words::{
     CallText, PIECE_BYTES, Shown, call_lines, call_word, content_lines, manifest_lines, options_in,
@@ -291,9 +291,9 @@ fn target_needed(alloc: Global, call: &[u8]) -> Result<&'static str, AllocError>
 fn why_no_target(alloc: Global, call: &[u8], target: &[u8]) -> Result<Option<String>, AllocError> {
     let needed = target_needed(alloc, call)?;
     let dots = dots_after(target);
-    match str::from_utf8(word_shown(target)) {
-        Ok("") | Err(_) => Ok(None),
-        Ok(word) => Ok(Some(format!(in alloc; "{word}{dots} is to be {needed}")?)),
+    match text_shown(target) {
+        Some("") | None => Ok(None),
+        Some(word) => Ok(Some(format!(in alloc; "{word}{dots} is to be {needed}")?)),
     }
 }
 

@@ -2,7 +2,7 @@
 //! speaks of it: each line is tested.
 
 use crate::saying::{Screen, say as say_line, say_command, typed_option};
-use per_reasons::{dots_after, word_shown};
+use per_reasons::{dots_after, text_shown};
 use per_run::{WordsError, read_words};
 use per_words::{is_line_word, unknown_in};
 use std::alloc::{AllocError, Global};
@@ -222,14 +222,14 @@ fn is_dashed(word: &String) -> bool {
 /// That the word is none of these arguments, where it can be shown, or where alone it stands.
 pub(crate) fn none_of_these(alloc: Global, word: &[u8]) -> Result<Option<String>, AllocError> {
     let dots = dots_after(word);
-    match str::from_utf8(word_shown(word)) {
-        Ok("") | Err(_) => Ok(None),
-        Ok("--demo") => Ok(Some(String::from_str(alloc, "--demo stands alone")?)),
-        Ok("--json") => Ok(Some(String::from_str(alloc, "--json stands beside ls alone")?)),
-        Ok(text) if is_line_word(word) => Ok(Some(format!(in alloc;
+    match text_shown(word) {
+        Some("") | None => Ok(None),
+        Some("--demo") => Ok(Some(String::from_str(alloc, "--demo stands alone")?)),
+        Some("--json") => Ok(Some(String::from_str(alloc, "--json stands beside ls alone")?)),
+        Some(text) if is_line_word(word) => Ok(Some(format!(in alloc;
             "{text} is a call of a line: ./per --dir DIR handles lines"
         )?)),
-        Ok(word) => Ok(Some(format!(in alloc; "{word}{dots} is none of these")?)),
+        Some(word) => Ok(Some(format!(in alloc; "{word}{dots} is none of these")?)),
     }
 }
 

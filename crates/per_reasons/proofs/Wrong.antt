@@ -1,10 +1,14 @@
--- What is said of a wrong word that is no text.
-use Rattle.std.proofs.Common.{◌≡◌, List, ℕ, [], ◌∷◌, ◌++◌, codes}
-use Rattle.std.specs.Str.{IsUtf8}
+-- What is said of a wrong word that is not shown.
+use Rattle.std.proofs.Common.{◌≡◌, List, ℕ, [], ◌∷◌, ◌++◌, codes, refl}
 use Rattle.std.proofs.lemmas.Str.{IsUtf8-nil}
-use Rattle.per_reasons.specs.Reasons.{IsNeededText}
+use Rattle.per_reasons.specs.Reasons.{IsNeededText, IsShown}
 
-pub wrong : (word dots needed text : List ℕ) → (IsUtf8 word → ⊥) → text ≡ codes "what is wrong is to be " ++ needed
+pub wrong : (word dots needed text : List ℕ) → (IsShown word → ⊥) → text ≡ codes "what is wrong is to be " ++ needed
     → IsNeededText word dots needed text
-wrong [] dots needed text lacks is = absurd (lacks IsUtf8-nil)
-wrong (byte ∷ word) dots needed text lacks is = (λ utf8. absurd (lacks utf8), λ none. is)
+wrong [] dots needed text lacks is = absurd (lacks (IsUtf8-nil, refl))
+wrong (byte ∷ word) dots needed text lacks is = (λ shown. absurd (lacks shown), λ none. is)
+
+pub right : (word dots needed text : List ℕ) → IsShown word → text ≡ word ++ (dots ++ (codes " is to be " ++ needed))
+    → (word ≡ [] → ⊥) → IsNeededText word dots needed text
+right [] dots needed text shows is some = absurd (some refl)
+right (byte ∷ word) dots needed text shows is some = (λ shown. is, λ lacks. absurd (lacks shows))

@@ -1,8 +1,8 @@
 -- Why a line was refused, in words.
-use Rattle.std.specs.Prelude.{◌≡◌, ◌-◌, ⊤, ℕ, List, [], ◌∷◌, ◌++◌, codes, drop, take, ◌&&◌, nat_eq}
-use Rattle.std.specs.Prelude.{nat_lt, if◌then◌else◌}
+use Rattle.std.specs.Prelude.{◌≡◌, ◌-◌, ⊤, ℕ, List, [], ◌∷◌, ◌++◌, codes, drop, take, Bool, true, not, ◌&&◌}
+use Rattle.std.specs.Prelude.{nat_eq, nat_le, nat_lt, if◌then◌else◌}
 use Rattle.std.specs.Prelude.{Option, Some, None, option_map}
-use Rattle.std.specs.List.{ends_with}
+use Rattle.std.specs.List.{ends_with, list_all}
 use Rattle.std.specs.Fmt.{decimal}
 use Rattle.std.specs.Str.{IsUtf8}
 use Rattle.per_words.specs.Flaws.{after_space, flaw_in, has_space, leading_length, leading_word, takes_text}
@@ -67,12 +67,20 @@ word_shown text = take (shown_length text) text
 abbrev pub dots_after : List ℕ → List ℕ
 dots_after text = if nat_lt 60 (leading_length text) then codes ".." else []
 
+-- the byte is no control character of ASCII, which are those before the space (32), and 127
+abbrev pub is_visible : ℕ → Bool
+is_visible byte = nat_le 32 byte && not (nat_eq byte 127)
+
+-- the word is shown: a text without control characters, which would begin a row or move the cursor
+abbrev pub IsShown : List ℕ → Type 0
+IsShown word = IsUtf8 word × (list_all is_visible word ≡ true)
+
 -- what is needed in place of this word, of which no more is shown
 abbrev pub IsNeededText : (word dots needed text : List ℕ) → Type 0
 IsNeededText [] dots needed text = text ≡ codes "what is missing is " ++ needed
 IsNeededText (byte ∷ word) dots needed text =
-    (IsUtf8 (byte ∷ word) → text ≡ (byte ∷ word) ++ (dots ++ (codes " is to be " ++ needed)))
-    × (¬ (IsUtf8 (byte ∷ word)) → text ≡ codes "what is wrong is to be " ++ needed)
+    (IsShown (byte ∷ word) → text ≡ (byte ∷ word) ++ (dots ++ (codes " is to be " ++ needed)))
+    × (¬ (IsShown (byte ∷ word)) → text ≡ codes "what is wrong is to be " ++ needed)
 
 -- what is needed in place of these bytes, with which the first wrong word begins
 abbrev pub IsWordText : Option (List ℕ) → (rest text : List ℕ) → Type 0

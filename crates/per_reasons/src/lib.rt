@@ -4,7 +4,7 @@
 //! storage and element a manifest breaks it, or where a line stops being one. [`why_not_updated`] and
 //! [`why_not_restored`] add for which key or storage a manifest does not fit what is stored. [`why_no_line`] says why a
 //! text is no line before it is handled, and [`why_no_call`] of the words of a call from a shell; [`why_no_dump`] adds
-//! what is wrong with the value of a key in a dump. [`word_shown`] is as much of a word as a refusal shows.
+//! what is wrong with the value of a key in a dump. [`text_shown`] is as much of a word as a refusal shows.
 #![tactic(auto)]
 
 mod blame;
@@ -21,4 +21,4 @@ pub use dumps::why_no_dump;
 pub use lines::{why_no_call, why_no_line};
 pub use parts::{Trial, Unfit, unfit_update, why_not_restored, why_not_updated};
 pub use refusals::why_refused;
-pub use words::{dots_after, word_shown};
+pub use words::{dots_after, text_shown};

@@ -9,7 +9,7 @@ ghost use Rattle.per_reasons.specs.Initials.{SaysNoValue};
 ghost use Rattle.per_reasons.specs.Numbers.{after_minus, begins_with_digit, bounds_text, leads_with_zero};
 ghost use Rattle.per_reasons.specs.Numbers.{needed_digits, needed_number, needed_value, type_length};
 
-use crate::words::{dots_after, word_shown};
+use crate::words::{dots_after, shown, word_shown};
 use per_words::{Needed, flaw_in, leading_number};
 use std::alloc::{AllocError, Global};
 
@@ -126,9 +126,9 @@ fn text_of_word(alloc: Global, needed: &str, word: &[u8], dots: &str) -> Result<
     if word.is_empty() {
         return format!(in alloc; "what is missing is {needed}");
     }
-    match str::from_utf8(word) {
-        Ok(word) => format!(in alloc; "{word}{dots} is to be {needed}"),
-        Err(_) => format!(in alloc; "what is wrong is to be {needed}"),
+    match shown(word) {
+        Some(word) => format!(in alloc; "{word}{dots} is to be {needed}"),
+        None => format!(in alloc; "what is wrong is to be {needed}"),
     }
 }
 

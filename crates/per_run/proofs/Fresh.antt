@@ -130,7 +130,7 @@ generates_none told converters n status now old new is later failed formats = re
     last = old.faults;
     blamed = refl;
     later = later;
-    passes = λ done. absurd (not_done status is done);
+    passes = failed;
   };
   follow = λ tells. tt;
   bounded = λ tells. record {
@@ -141,7 +141,7 @@ generates_none told converters n status now old new is later failed formats = re
     left = inl refl;
   };
   settled = λ tells done. absurd (not_done status is done);
-  unbegun = λ open_end. (refl, failed, formats);
+  unbegun = λ open_end. (refl, formats);
   clean = λ tells begun. absurd (not_begun is begun);
 }
 
@@ -204,7 +204,7 @@ generates_short told rules answers n now memory old middle begun new b course = 
     last = course.failures.last;
     blamed = subst (λ (n : ℕ). AreBlamed n course.turns course.failures.last) b.passes course.failures.blamed;
     later = course.failures.later;
-    passes = λ done. absurd (not_done 4 (inr refl) done);
+    passes = λ other. course.failures.passes (λ is. cc);
   };
   follow = λ tells. follow_from rules answers (after_start (world_at middle.image)) formatted course.turns (here tells)
       (side tells).follow;

@@ -173,15 +173,14 @@ pub record Generates (told : Bool) (converters : Converters) (n status : ℕ) (b
   pub turns : List Turn
   pub gives : Give lines (events_of turns)
   pub output : WritesOutput status before.taken after.taken (summary (length (generated n)) (replies_of turns))
-  pub failures : CountsFailures (CameToOutput status) before.disk.faults turns after.disk.faults
+  pub failures : CountsFailures (status ≢ 3) before.disk.faults turns after.disk.faults
   pub follow : IsTrue told → Follow converters.rules converters.answers formatted turns
   pub bounded : IsTrue told → IsGeneratedWithin converters (without_sink lines (generated n) turns)
       (CameToOutput status) before.disk after.disk
   pub settled : IsTrue told → CameToOutput status → IsSettled (last_of formatted (worlds_of turns)) after.disk
-  -- where the start did not end no line was handled, and no more was done than the formatting and the start; and where
-  -- memory ran out in them, no call of the disk failed
-  pub unbegun : ¬ (HasStarted ending) → (lines ≡ []) × FailsAtThree status before.disk.faults after.disk.faults
-      × (IsTrue told → FormatsWithin (bytes_now before.disk) (bytes_now after.disk))
+  -- where the start did not end no line was handled, and no more was done than the formatting and the start
+  pub unbegun : ¬ (HasStarted ending)
+      → (lines ≡ []) × (IsTrue told → FormatsWithin (bytes_now before.disk) (bytes_now after.disk))
   -- and where it did the places are clean, however the job ended
   pub clean : (tells : IsTrue told) → HasStarted ending → (app : ℕ) → app < 8 → AreSoundDoubts app (worlds_of turns)
       → IsSoundEnd app ending (bytes_after (bounded tells).begun turns) after.disk → IsCleanApp app after.disk.image
