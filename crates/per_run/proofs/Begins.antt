@@ -14,14 +14,15 @@ use Rattle.run_model.specs.Runs.{Run}
 use Rattle.run_model.specs.Runtimes.{Memory, Starts, StartKeeps}
 use Rattle.per_run.specs.declared.endings.Ending.{Ending as Way}
 use Rattle.per_run.specs.declared.endings.Ending.TheVariants as ways
-use Rattle.per_run.specs.Steps.{Blamed, Handled, RanOverInput, Reached, ending_of}
+use Rattle.per_run.specs.Steps.{Blamed, Handled, RanOverInput, Reached, ending_of, reading}
 use Rattle.per_run.proofs.Goes.{goes_none}
 use Rattle.per_run.proofs.Inputs.{not_seen}
+use Rattle.per_run.proofs.Settings.{setting}
 
 -- nothing is handled yet
 pub handled_none : (told : Bool) (rules : List Rule) (answers : Answers) (now : Option (List ℕ)) (memory : Memory)
     (old new : Medium) → Elapses old new → new.faults ≡ old.faults
-    → (IsTrue told → Starts memory old new) → Handled told rules answers old now [] now memory new
+    → (IsTrue told → Starts memory old new) → Handled (setting told rules answers old now) [] now memory new
 handled_none told rules answers now memory old new time passes starts = record {
   turns = [];
   gives = refl;
@@ -31,8 +32,8 @@ handled_none told rules answers now memory old new time passes starts = record {
 
 pub reached_none : (told : Bool) (rules : List Rule) (answers : Answers) (start : Medium) (before now : Option (List ℕ))
     (memory : Memory) (medium : Medium) (kept : List ℕ) (number : ℕ)
-    → Handled told rules answers start before [] now memory medium → kept ≡ [] → number ≡ 0
-    → Reached told rules answers start before [] now memory medium kept number
+    → Handled (setting told rules answers start before) [] now memory medium → kept ≡ [] → number ≡ 0
+    → Reached (setting told rules answers start before) [] now (reading memory kept number) medium
 reached_none told rules answers start before now memory medium kept number handled empty none = record {
   lines = [];
   rest = [];
@@ -118,10 +119,10 @@ run_short laws told converters status left taken source_failures sink_failures o
 -- the same memory under another name
 pub handled_as : (told : Bool) (rules : List Rule) (answers : Answers) (start : Medium) (before : Option (List ℕ))
     (lines : List (List ℕ)) (now : Option (List ℕ)) (memory same : Memory) (medium : Medium)
-    → same ≡ memory → Handled told rules answers start before lines now memory medium
-    → Handled told rules answers start before lines now same medium
+    → same ≡ memory → Handled (setting told rules answers start before) lines now memory medium
+    → Handled (setting told rules answers start before) lines now same medium
 handled_as told rules answers start before lines now memory same medium is handled =
-    subst (λ (m : Memory). Handled told rules answers start before lines now m medium) (sym is) handled
+    subst (λ (m : Memory). Handled (setting told rules answers start before) lines now m medium) (sym is) handled
 
 -- why it ended
 pub cause_of : (ending : Way) (before after : FailureCounts) → (ending ≡ ways.Source → Rose before.source after.source)
@@ -139,8 +140,8 @@ pub run_from : (told : Bool) (converters : Converters) (ending : Way) (status : 
     → Elapses before.disk after.disk → status ≡ ending_status (ending_of ending)
     → (ending ≡ ways.Source → Rose before.source_failures after.source_failures)
     → Blamed ending before.sink_failures after.sink_failures
-    → RanOverInput told converters.rules converters.answers ending before.disk before.left after.left before.taken
-    after.taken after.disk
+    → RanOverInput (record { told = told; converters = converters; start = before.disk; before = before.taken })
+    ending before.left after.left after.taken after.disk
     → Run told converters status before after
 run_from told converters ending status before after time is source blamed ran = record {
   ending = ending_of ending;

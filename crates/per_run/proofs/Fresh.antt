@@ -30,6 +30,7 @@ use Rattle.per_run.proofs.Courses.{counts_whole}
 use Rattle.per_run.proofs.Goes.{goes_none}
 use Rattle.per_run.proofs.Outputs.{not_done, writes_none}
 use Rattle.per_run.proofs.Tallied.{length_all}
+use Rattle.per_run.proofs.Settings.{setting}
 
 -- ---- the world of a disk that was formatted
 
@@ -156,7 +157,7 @@ start_formatted = refl
 
 pub counted_none : (told : Bool) (rules : List Rule) (answers : Answers) (memory : Memory) (tally : Tally)
     (old middle new : Medium) → IsServeBegun told memory old middle new → Tallies [] tally
-    → Counted told rules answers middle [] memory tally new
+    → Counted (setting told rules answers middle None) [] memory tally new
 counted_none told rules answers memory tally old middle new begun none = record {
   turns = [];
   gives = refl;
@@ -189,7 +190,7 @@ first_lines lines all turns (inr reply) = (reply.others, reply.next)
 -- memory ran out after the start
 pub generates_short : (told : Bool) (rules : List Rule) (answers : Answers) (n : ℕ) (now : Option (List ℕ))
     (memory : Memory) (old middle begun new : Medium) → IsServeBegun told memory old middle begun
-    → RunsShort told rules answers middle (generated n) new
+    → RunsShort (setting told rules answers middle None) (generated n) new
     → Generates told (record { rules = rules; answers = answers }) n 4 (outputs now old) (outputs now new)
 generates_short told rules answers n now memory old middle begun new b course = record {
   ending = endings.memory;
@@ -253,8 +254,8 @@ handled_begun (inr (inr six)) = tt
 
 pub generates_all : {Cause : Type 0} (told : Bool) (rules : List Rule) (answers : Answers) (n status : ℕ)
     (before now : Option (List ℕ)) (memory after : Memory) (tally : Tally) (old middle begun new : Medium)
-    → IsServeBegun told memory old middle begun → (counted : Counted told rules answers middle
-    (generated n) after tally new)
+    → IsServeBegun told memory old middle begun → (counted : Counted (setting told rules answers middle None) (generated n)
+    after tally new)
     → WritesOutput status before now (summary (n + 5) (replies_of counted.turns))
     → (status ≡ 0) ⊎ ((status ≡ 4) ⊎ ((status ≡ 6) × Cause))
     → Generates told (record { rules = rules; answers = answers }) n status (outputs before old) (outputs now new)

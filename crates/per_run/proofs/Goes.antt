@@ -9,6 +9,7 @@ use Rattle.run_model.specs.Runtimes.{Memory, IsDoubt, Starts, Stepped, world_of}
 use Rattle.run_model.specs.Turns.{Turn, turn, IsBlamed}
 use Rattle.run_model.specs.Worlds.{Doubt, World, formatted}
 use Rattle.per_run.specs.Steps.{Goes, IsGoing}
+use Rattle.per_run.proofs.Settings.{converting}
 
 module _ (rules : List Rule) (answers : Answers) (start : Medium) where
   -- the doubt after a command whose disk has modelled bytes
@@ -28,10 +29,10 @@ module _ (rules : List Rule) (answers : Answers) (start : Medium) where
   -- one command more
   pub goes_on : (told : Bool) (turns : List Turn) (e : Event) (reply : Reply) (before after : Memory) (now new : Medium)
       → IsLawful told new → Elapses now new
-      → Goes told rules answers start turns before now → IsBlamed now.faults new.faults reply
+      → Goes told (converting rules answers) start turns before now → IsBlamed now.faults new.faults reply
       → (IsTrue told → (doubt : Option Doubt) → IsDoubt before doubt
       → Stepped rules answers e reply before after doubt now new)
-      → (w : World) × Goes told rules answers start (turns ++ turn e reply new w ∷ []) after new
+      → (w : World) × Goes told (converting rules answers) start (turns ++ turn e reply new w ∷ []) after new
   goes_on false turns e reply before after now new lawful time goes blamed stepped = (
     formatted,
     record {
@@ -53,7 +54,7 @@ module _ (rules : List Rule) (answers : Answers) (start : Medium) where
 -- a runtime that started is a run without a command
 pub goes_none : (told : Bool) (rules : List Rule) (answers : Answers) (memory : Memory) (old new : Medium)
     → Elapses old new → new.faults ≡ old.faults → (IsTrue told → Starts memory old new)
-    → Goes told rules answers old [] memory new
+    → Goes told (converting rules answers) old [] memory new
 goes_none told rules answers memory old new time passes starts = record {
   blamed = passes;
   disk = λ tells. let s : Starts memory old new = starts tells in

@@ -13,9 +13,10 @@ use Rattle.run_model.specs.Runtimes.{Memory}
 use Rattle.per_run.specs.declared.endings.Ending.{Ending}
 use Rattle.per_run.specs.declared.endings.Ending.TheVariants.{AllRead, EndLine, BadLine, OutOfMemory, Source, Sink}
 use Rattle.per_run.specs.declared.endings.Ending.TheVariants.{TooLong}
-use Rattle.per_run.specs.Steps.{Course, Handled, IsBroken, RanOverInput, Reached, ending_of}
+use Rattle.per_run.specs.Steps.{Course, Handled, IsBroken, RanOverInput, Reached, ending_of, reading}
 use Rattle.per_run.proofs.Courses.{course_source, course_long, course_memory}
 use Rattle.per_run.proofs.Splits.{lines_whole}
+use Rattle.per_run.proofs.Settings.{setting}
 
 source_apart : Source ≡ AllRead → ⊥
 source_apart is = cc
@@ -57,12 +58,12 @@ pub record Taken (told : Bool) (rules : List Rule) (answers : Answers) (start : 
   pub given : List ℕ
   pub takes : Consumes left_before left_now given
   pub count_is : length given ≡ taken
-  pub reached : Reached told rules answers start before given now memory medium kept number
+  pub reached : Reached (setting told rules answers start before) given now (reading memory kept number) medium
 
 module _ (told : Bool) (rules : List Rule) (answers : Answers) (start : Medium) (left_before : Option (List ℕ))
     (before : Option (List ℕ)) where
   pub taken_none : (now : Option (List ℕ)) (memory : Memory) (medium : Medium) (kept : List ℕ) (number : ℕ)
-      → Reached told rules answers start before [] now memory medium kept number
+      → Reached (setting told rules answers start before) [] now (reading memory kept number) medium
       → Taken told rules answers start left_before left_before before now memory medium kept number 0
   taken_none now memory medium kept number reached = record {
     given = [];
@@ -78,8 +79,9 @@ module _ (told : Bool) (rules : List Rule) (answers : Answers) (start : Medium) 
       → count ≤ length buffer → taken + count ≤ 67108864
       → Consumes left_now left_later (take count buffer)
       → ((given : List ℕ) → length (given ++ take count buffer) < 2 ^ 63
-      → Reached told rules answers start before given now memory old kept number
-      → Reached told rules answers start before (given ++ take count buffer) later after new kept_later number_later)
+      → Reached (setting told rules answers start before) given now (reading memory kept number) old
+      → Reached (setting told rules answers start before) (given ++ take count buffer) later
+      (reading after kept_later number_later) new)
       → Taken told rules answers start left_before left_later before later after new kept_later number_later
       (taken + count)
   taken_more left_now left_later now later memory after old new kept kept_later number number_later taken count buffer
@@ -101,10 +103,10 @@ module _ (told : Bool) (rules : List Rule) (answers : Answers) (start : Medium) 
       → Taken told rules answers start left_before left_now before now memory old kept number taken → taken < 67108864
       → count ≡ 0 → Consumes left_now left_later (take count buffer)
       → IsAtEnd left_later → (ending ≡ AllRead) ⊎ IsBroken ending
-      → ((given : List ℕ) → length given < 2 ^ 63 → Reached told rules answers start before given now memory old kept
-      number
-      → Course told rules answers (ending_of ending) start before (lines_of true given) later new)
-      → RanOverInput told rules answers ending start left_before left_later before later new
+      → ((given : List ℕ) → length given < 2 ^ 63 → Reached (setting told rules answers start before) given now
+      (reading memory kept number) old
+      → Course (setting told rules answers start before) (ending_of ending) (lines_of true given) later new)
+      → RanOverInput (setting told rules answers start before) ending left_before left_later later new
   ran_read ending left_now left_later now later memory old new kept number taken count buffer so_far within none takes
       at_end inner ends =
       let nothing : Consumes left_now left_later [] = subst (λ (n : ℕ). Consumes left_now left_later (take n buffer))
@@ -127,10 +129,10 @@ module _ (told : Bool) (rules : List Rule) (answers : Answers) (start : Medium) 
       → count ≤ length buffer → taken + count ≤ 67108864
       → Consumes left_now left_later (take count buffer) → IsBroken ending
       → ((given : List ℕ) → length (given ++ take count buffer) < 2 ^ 63
-      → Reached told rules answers start before given now memory old kept number
-      → Course told rules answers (ending_of ending) start before (lines_of false (given ++ take count buffer)) later
-      new)
-      → RanOverInput told rules answers ending start left_before left_later before later new
+      → Reached (setting told rules answers start before) given now (reading memory kept number) old
+      → Course (setting told rules answers start before) (ending_of ending) (lines_of false (given ++ take count buffer))
+      later new)
+      → RanOverInput (setting told rules answers start before) ending left_before left_later later new
   ran_fed ending left_now left_later now later memory old new kept number taken count buffer so_far within fits limit
       takes broken ends =
       let piece : length (take count buffer) ≡ count = length-take-le count buffer fits in
@@ -150,7 +152,7 @@ module _ (told : Bool) (rules : List Rule) (answers : Answers) (start : Medium) 
   -- all whole lines of what was taken are handled
   whole_lines : (given : List ℕ) (now : Option (List ℕ)) (memory : Memory) (medium : Medium) (kept : List ℕ)
       (number : ℕ)
-      → (reached : Reached told rules answers start before given now memory medium kept number)
+      → (reached : Reached (setting told rules answers start before) given now (reading memory kept number) medium)
       → lines_of false given ≡ reached.lines
   whole_lines given now memory medium kept number reached =
       ap (lines_of false) reached.split ∙ lines_whole reached.lines reached.rest reached.clean reached.clean_rest
@@ -160,7 +162,7 @@ module _ (told : Bool) (rules : List Rule) (answers : Answers) (start : Medium) 
       (kept : List ℕ) (number taken : ℕ)
       → Taken told rules answers start left_before left_now before now memory medium kept number taken
       → taken < 67108864 → Keeps left_now left_later
-      → RanOverInput told rules answers Source start left_before left_later before now medium
+      → RanOverInput (setting told rules answers start before) Source left_before left_later now medium
   ran_source laws left_now left_later now memory medium kept number taken so_far within keeps = record {
     given = so_far.given;
     taken = Consumes-kept left_before left_now left_later so_far.given so_far.takes keeps;
@@ -178,7 +180,7 @@ module _ (told : Bool) (rules : List Rule) (answers : Answers) (start : Medium) 
       (number taken : ℕ)
       → Taken told rules answers start left_before left_now before now memory medium kept number taken
       → taken ≤ 67108864 → 67108864 ≤ taken
-      → RanOverInput told rules answers TooLong start left_before left_now before now medium
+      → RanOverInput (setting told rules answers start before) TooLong left_before left_now now medium
   ran_long laws left_now now memory medium kept number taken so_far within least = record {
     given = so_far.given;
     taken = so_far.takes;
@@ -193,8 +195,8 @@ module _ (told : Bool) (rules : List Rule) (answers : Answers) (start : Medium) 
 
   -- memory ran out before anything was taken
   pub ran_memory : AppLaws → (now : Option (List ℕ)) (memory : Memory) (medium : Medium)
-      → Handled told rules answers start before [] now memory medium
-      → RanOverInput told rules answers OutOfMemory start left_before left_before before now medium
+      → Handled (setting told rules answers start before) [] now memory medium
+      → RanOverInput (setting told rules answers start before) OutOfMemory left_before left_before now medium
   ran_memory laws now memory medium handled = record {
     given = [];
     taken = Consumes-nil left_before;

@@ -1,3 +1,4 @@
+pub mod Settings
 pub mod Matched
 pub mod Known
 pub mod Splits

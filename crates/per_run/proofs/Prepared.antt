@@ -30,10 +30,11 @@ use Rattle.per_run.specs.declared.endings.Ending.TheVariants as ways
 use Rattle.per_run.specs.Serves.{HasNoBytes, IsPreparedDisk, Serve, Serves, as_it_was, formatted_first, served}
 use Rattle.per_run.specs.Serves.{unprepared}
 use Rattle.per_run.specs.Serving.{Hearing, IsExactly, IsReadied, IsUnready, Served}
-use Rattle.per_run.specs.Steps.{Blamed, IsServeBegun, ending_of}
+use Rattle.per_run.specs.Steps.{Blamed, IsServeBegun, ending_of, outset}
 use Rattle.per_run.proofs.Begins.{cause_of, still}
 use Rattle.per_run.proofs.Goes.{goes_none}
 use Rattle.per_run.proofs.Inputs.{not_seen}
+use Rattle.per_run.proofs.Settings.{setting}
 
 -- ---- whether anything is on the disk
 
@@ -154,7 +155,7 @@ on_err (Err e) p = p
 
 pub hearing_none : (told : Bool) (rules : List Rule) (answers : Answers) (now : Option (List ℕ)) (memory : Memory)
     (old new : Medium) → Elapses old new → new.faults ≡ old.faults → (IsTrue told → Starts memory old new)
-    → Hearing told rules answers old now [] now memory new
+    → Hearing (setting told rules answers old now) [] now memory new
 hearing_none told rules answers now memory old new time passes starts = record {
   are = tt;
   wrote = Appends-nil now;
@@ -166,8 +167,8 @@ pub serve_from : (told : Bool) (converters : Converters) (ending : Way) (status 
     → Elapses before.disk after.disk → status ≡ ending_status (ending_of ending)
     → (ending ≡ ways.Source → Rose before.source_failures after.source_failures)
     → Blamed ending before.sink_failures after.sink_failures
-    → Served told converters.rules converters.answers ending before.disk before.left after.left before.taken after.taken
-    after.disk
+    → Served (record { told = told; converters = converters; start = before.disk; before = before.taken })
+    ending before.left after.left after.taken after.disk
     → Serve told converters status before after
 serve_from told converters ending status before after time is source blamed s = record {
   ending = ending_of ending;
@@ -192,8 +193,8 @@ pub serves_from : {D : Type 0} (of_disk : DiskOf D) (converters : Converters) (e
     → Elapses (of_disk.medium middle) (of_disk.medium after.disk) → status ≡ ending_status (ending_of ending)
     → (ending ≡ ways.Source → Rose before.source_failures after.source_failures)
     → Blamed ending before.sink_failures after.sink_failures
-    → Served of_disk.told converters.rules converters.answers ending (of_disk.medium r.start) before.left after.left
-    before.taken after.taken (of_disk.medium after.disk)
+    → Served (outset of_disk converters r.start before.taken) ending before.left after.left after.taken
+    (of_disk.medium after.disk)
     → Serves of_disk converters status before after
 serves_from of_disk converters ending status before after middle memory r time is source blamed s =
     served r.start r.prepared (serve_from of_disk.told converters ending status

@@ -24,9 +24,11 @@ use Rattle.per_run.specs.declared.tally.Tally.{Tally}
 use Rattle.per_run.specs.Jobs.{BeginWith, done_in, error_in, number_in, is_done, is_error, is_other, size_given}
 use Rattle.per_run.specs.Jobs.{summary, summary_text}
 use Rattle.per_run.specs.Steps.{Counted, Goes, Handled, IsLineAnswered, IsLineOutcome, IsStopped, RunsShort, Tallies}
+use Rattle.per_run.specs.Steps.{runtime_at}
 use Rattle.per_run.proofs.Courses.{course_memory, course_short}
 use Rattle.per_run.proofs.Gives.{give_turn, replies_on}
 use Rattle.per_run.proofs.Goes.{goes_on}
+use Rattle.per_run.proofs.Settings.{converting, disk_as, setting}
 
 -- ---- one reply more
 
@@ -143,13 +145,13 @@ length_replies (t ∷ ts) = ap suc (length_replies ts)
 module _ (told : Bool) (rules : List Rule) (answers : Answers) (start : Medium) where
   pub counted_more : (lines : List (List ℕ)) (text : List ℕ) (reply : Reply) (memory after : Memory)
       (tally tally' : Tally) (old new : Medium) → IsLawful told new → Elapses old new
-      → length lines < 2 ^ 32 → Counted told rules answers start lines memory tally old
-      → IsLineAnswered told rules answers text memory after reply old new
+      → length lines < 2 ^ 32 → Counted (setting told rules answers start None) lines memory tally old
+      → IsLineAnswered told (converting rules answers) text (runtime_at memory old) (runtime_at after new) reply
       → ((replies : List Reply) → length replies < 2 ^ 32 → Tallies replies tally
       → Tallies (replies ++ reply ∷ []) tally')
-      → Counted told rules answers start (lines ++ text ∷ []) after tally' new
+      → Counted (setting told rules answers start None) (lines ++ text ∷ []) after tally' new
   counted_more lines text reply memory after tally tally' old new lawful time few counted a tallies =
-      let more : (w : World) × Goes told rules answers start (counted.turns ++ turn a.event reply new w ∷ [])
+      let more : (w : World) × Goes told (converting rules answers) start (counted.turns ++ turn a.event reply new w ∷ [])
       after new =
       goes_on rules answers start told counted.turns a.event reply memory after old new lawful time counted.goes
       a.blamed a.stepped in
@@ -166,10 +168,10 @@ module _ (told : Bool) (rules : List Rule) (answers : Answers) (start : Medium) 
       }
 
   pub counted_along : (lines same : List (List ℕ)) (memory : Memory) (tally : Tally) (medium : Medium) → same ≡ lines
-      → Counted told rules answers start lines memory tally medium
-      → Counted told rules answers start same memory tally medium
+      → Counted (setting told rules answers start None) lines memory tally medium
+      → Counted (setting told rules answers start None) same memory tally medium
   counted_along lines same memory tally medium is counted =
-      subst (λ (l : List (List ℕ)). Counted told rules answers start l memory tally medium) (sym is) counted
+      subst (λ (l : List (List ℕ)). Counted (setting told rules answers start None) l memory tally medium) (sym is) counted
 
 -- ---- lines that begin with others
 
@@ -325,8 +327,8 @@ begin_each before all lines i begin = begin_less (before ++ texts_of (take i lin
 pub unanswered : {D : Type 0} (told : Bool) (medium : D → Medium) (rules : List Rule) (answers : Answers)
     (text : List ℕ) (memory after : Memory) (old new : D) (r : LineOutcome)
     → ((reply : Reply) → r ≡ outcome.Answered reply → ⊥)
-    → IsLineOutcome told medium rules answers text memory after old new r
-    → (new ≡ old) ⊎ IsStopped told rules answers text memory (medium old) (medium new)
+    → IsLineOutcome (disk_as told medium) (converting rules answers) text (runtime_at memory old) (runtime_at after new) r
+    → (new ≡ old) ⊎ IsStopped told (converting rules answers) text memory (medium old) (medium new)
 unanswered told medium rules answers text memory after old new outcome.Nothing none it = inl it.2
 unanswered told medium rules answers text memory after old new outcome.End none it = inl it.1
 unanswered told medium rules answers text memory after old new outcome.Bad none it = inl it.2
@@ -336,8 +338,8 @@ unanswered told medium rules answers text memory after old new outcome.OutOfMemo
 
 module _ (told : Bool) (rules : List Rule) (answers : Answers) (start : Medium) where
   counted_handled : (lines : List (List ℕ)) (memory : Memory) (tally : Tally) (medium : Medium)
-      → Counted told rules answers start lines memory tally medium
-      → Handled told rules answers start None lines None memory medium
+      → Counted (setting told rules answers start None) lines memory tally medium
+      → Handled (setting told rules answers start None) lines None memory medium
   counted_handled lines memory tally medium counted = record {
     turns = counted.turns;
     gives = counted.gives;
@@ -347,21 +349,21 @@ module _ (told : Bool) (rules : List Rule) (answers : Answers) (start : Medium) 
 
   -- between commands
   pub short_between : AppLaws → (lines all : List (List ℕ)) (memory : Memory) (tally : Tally) (medium : Medium)
-      → Counted told rules answers start lines memory tally medium → BeginWith lines all
-      → RunsShort told rules answers start all medium
+      → Counted (setting told rules answers start None) lines memory tally medium → BeginWith lines all
+      → RunsShort (setting told rules answers start None) all medium
   short_between laws lines all memory tally medium counted begin =
-      subst (λ (l : List (List ℕ)). RunsShort told rules answers start l medium) (sym begin.1)
+      subst (λ (l : List (List ℕ)). RunsShort (setting told rules answers start None) l medium) (sym begin.1)
       (course_memory told rules answers start None laws lines begin.0 None None memory medium
       (counted_handled lines memory tally medium counted) tt)
 
   -- at a line: in reading it, or in its command
   pub short_at : {D : Type 0} (medium : D → Medium) → AppLaws → (lines all : List (List ℕ)) (text : List ℕ)
       (memory : Memory) (tally : Tally) (old new : D) → IsLawful told (medium new) → Elapses (medium old) (medium new)
-      → Counted told rules answers start lines memory tally (medium old)
-      → (new ≡ old) ⊎ IsStopped told rules answers text memory (medium old) (medium new)
-      → BeginWith (lines ++ text ∷ []) all → RunsShort told rules answers start all (medium new)
+      → Counted (setting told rules answers start None) lines memory tally (medium old)
+      → (new ≡ old) ⊎ IsStopped told (converting rules answers) text memory (medium old) (medium new)
+      → BeginWith (lines ++ text ∷ []) all → RunsShort (setting told rules answers start None) all (medium new)
   short_at {D} medium laws lines all text memory tally old new lawful time counted ends begin =
-      subst (λ (l : List (List ℕ)). RunsShort told rules answers start l (medium new))
+      subst (λ (l : List (List ℕ)). RunsShort (setting told rules answers start None) l (medium new))
       (sym (begin.1 ∙ append_assoc lines (text ∷ []) begin.0))
       (course_short told rules answers start None medium laws lines begin.0 None memory old new text lawful time
       (counted_handled lines memory tally (medium old) counted) ends)

@@ -1,6 +1,6 @@
 -- What the parts of a run keep, from line to line and from byte to byte. Of bytes `before` and `now` are what the sink
 -- took before and has taken now, `left_before` and `left_now` what the source has left, each None where nothing is said
--- of it. `rules` are the converters of values between types, and `answers` what each may answer.
+-- of it.
 use Rattle.std.specs.Prelude.{◌≡◌, ◌≢◌, ◌⊎◌, ◌≤◌, ◌<◌, ◌+◌, ◌*◌, ℕ, List, [], ◌∷◌, ◌++◌, length, take, Option, None}
 use Rattle.std.specs.Prelude.{Bool, false}
 use Rattle.std.specs.Prelude.{IsTrue, Result, Ok, Err, IsErrOf, IfErr, count_by, ⊤}
@@ -9,6 +9,7 @@ use Rattle.std.specs.Io.KnownBytes.{Appends, Consumes, IsAtEnd}
 use Rattle.per_base.specs.Causes.{Rose}
 use Rattle.disk_model.specs.Frame.{Spares}
 use Rattle.disk_model.specs.Medium.{Medium, Quiet, Elapses}
+use Rattle.disk_model.specs.declared.disk.Disk.{Ghosts as DiskOf}
 use Rattle.migrate_fns.specs.Rules.{Rule, Answers}
 use Rattle.deploy_laws.specs.Apps.{IsCleanApp}
 use Rattle.command_text.specs.declared.calls.Event.{Event}
@@ -17,6 +18,7 @@ use Rattle.command_text.specs.declared.replies.Reply.{Reply}
 use Rattle.command_text.specs.Grammar.{IsLine, has_feed}
 use Rattle.command_text.specs.Replies.{HasText}
 use Rattle.deploy_rows.specs.Costs.{format_cost}
+use Rattle.run_model.specs.Edges.{Converters}
 use Rattle.run_model.specs.Endings as endings
 use Rattle.run_model.specs.Endings.{EndsBy, IsInput}
 use Rattle.run_model.specs.Lines.{Give, IsBad, lines_of}
@@ -85,37 +87,46 @@ IsBadLineAnswer text before now other = ⊥
 
 -- ---- one line
 
+-- the runtime at one moment: what it keeps in memory, and the disk
+pub record RuntimeAt {ℓ} (D : Type ℓ) : Type ℓ where
+  pub memory : Memory
+  pub disk : D
+
+abbrev pub runtime_at {ℓ} : {D : Type ℓ} → Memory → D → RuntimeAt D
+runtime_at memory disk = record { memory = memory; disk = disk }
+
 -- the command of the line was answered
-pub record IsLineAnswered (told : Bool) (rules : List Rule) (answers : Answers) (text : List ℕ) (before after : Memory)
-    (reply : Reply) (old new : Medium) : Type 0 where
+pub record IsLineAnswered (told : Bool) (converters : Converters) (text : List ℕ) (old new : RuntimeAt Medium)
+    (reply : Reply) : Type 0 where
   pub event : Event
   pub spelled : IsLine text (line.Event event)
   pub has_text : HasText reply.answer
-  pub blamed : IsBlamed old.faults new.faults reply
-  pub stepped : IsTrue told → (doubt : Option Doubt) → IsDoubt before doubt
-      → Stepped rules answers event reply before after doubt old new
+  pub blamed : IsBlamed old.disk.faults new.disk.faults reply
+  pub stepped : IsTrue told → (doubt : Option Doubt) → IsDoubt old.memory doubt
+      → Stepped converters.rules converters.answers event reply old.memory new.memory doubt old.disk new.disk
 
 -- memory ran out in the command of the line, in which no call of the disk had failed
-pub record IsStopped (told : Bool) (rules : List Rule) (answers : Answers) (text : List ℕ) (before : Memory)
+pub record IsStopped (told : Bool) (converters : Converters) (text : List ℕ) (before : Memory)
     (old new : Medium) : Type 0 where
   pub event : Event
   pub spelled : IsLine text (line.Event event)
   pub stopped : IsTrue told → (doubt : Option Doubt) → IsDoubt before doubt
-      → Stopped rules answers event before doubt old new
+      → Stopped converters.rules converters.answers event before doubt old new
   pub fed : new.faults ≡ old.faults
 
--- what came of a line, from the memory and the disk before it to those after it
-abbrev pub IsLineOutcome : {D : Type 0} → (told : Bool) → (medium : D → Medium) → List Rule → Answers → (text : List ℕ)
-    → (before after : Memory) → (old new : D) → LineOutcome → Type 0
-IsLineOutcome told medium rules answers text before after old new outcome.Nothing =
-    IsLine text line.Nothing × (after ≡ before) × (new ≡ old)
-IsLineOutcome told medium rules answers text before after old new outcome.End = IsLine text line.End × (new ≡ old)
-IsLineOutcome told medium rules answers text before after old new outcome.Bad =
-    IsBad text × (after ≡ before) × (new ≡ old)
-IsLineOutcome told medium rules answers text before after old new (outcome.Answered reply) =
-    IsLineAnswered told rules answers text before after reply (medium old) (medium new)
-IsLineOutcome told medium rules answers text before after old new outcome.OutOfMemory =
-    (new ≡ old) ⊎ IsStopped told rules answers text before (medium old) (medium new)
+-- what came of a line
+abbrev pub IsLineOutcome : {D : Type 0} → DiskOf D → Converters → (text : List ℕ) → (old new : RuntimeAt D)
+    → LineOutcome → Type 0
+IsLineOutcome of_disk converters text old new outcome.Nothing =
+    IsLine text line.Nothing × (new.memory ≡ old.memory) × (new.disk ≡ old.disk)
+IsLineOutcome of_disk converters text old new outcome.End = IsLine text line.End × (new.disk ≡ old.disk)
+IsLineOutcome of_disk converters text old new outcome.Bad =
+    IsBad text × (new.memory ≡ old.memory) × (new.disk ≡ old.disk)
+IsLineOutcome of_disk converters text old new (outcome.Answered reply) =
+    IsLineAnswered of_disk.told converters text (runtime_at old.memory (of_disk.medium old.disk))
+    (runtime_at new.memory (of_disk.medium new.disk)) reply
+IsLineOutcome of_disk converters text old new outcome.OutOfMemory = (new.disk ≡ old.disk)
+    ⊎ IsStopped of_disk.told converters text old.memory (of_disk.medium old.disk) (of_disk.medium new.disk)
 
 -- ---- the run so far
 
@@ -126,33 +137,47 @@ IsGoing rules answers start turns memory now = (doubt : Option Doubt) × IsDoubt
     × Going rules answers (world_at start.image) (after_start (world_at start.image)) turns memory doubt start now
 
 -- The commands were answered since the start of the run, each with its cause.
-pub record Goes (told : Bool) (rules : List Rule) (answers : Answers) (start : Medium) (turns : List Turn)
-    (memory : Memory) (now : Medium) : Type 0 where
+pub record Goes (told : Bool) (converters : Converters) (start : Medium) (turns : List Turn) (memory : Memory)
+    (now : Medium) : Type 0 where
   pub blamed : AreBlamed start.faults turns now.faults
-  pub disk : IsTrue told → IsGoing rules answers start turns memory now
+  pub disk : IsTrue told → IsGoing converters.rules converters.answers start turns memory now
+
+-- what a run sets out with: whether the bytes of its disk are modelled, its converters, the disk when the runtime
+-- started, and what the sink had taken then
+pub record Outset : Type 1 where
+  pub told : Bool
+  pub converters : Converters
+  pub start : Medium
+  pub before : Option (List ℕ)
+
+abbrev pub outset : {D : Type 0} → DiskOf D → Converters → (start : D) → (before : Option (List ℕ)) → Outset
+outset of_disk converters start before = record {
+  told = of_disk.told;
+  converters = converters;
+  start = of_disk.medium start;
+  before = before;
+}
 
 -- These lines were handled since the start of the run: their commands are answered, and the replies written. The
 -- `turns` are those commands, each with its reply.
-pub record Handled (told : Bool) (rules : List Rule) (answers : Answers) (start : Medium) (before : Option (List ℕ))
-    (lines : List (List ℕ)) (now : Option (List ℕ))
-    (memory : Memory) (medium : Medium) : Type 0 where
+pub record Handled (from : Outset) (lines : List (List ℕ)) (now : Option (List ℕ)) (memory : Memory)
+    (medium : Medium) : Type 0 where
   pub turns : List Turn
   pub gives : Give lines (events_of turns)
-  pub wrote : Appends before now (replies_text turns)
-  pub goes : Goes told rules answers start turns memory medium
+  pub wrote : Appends from.before now (replies_text turns)
+  pub goes : Goes from.told from.converters from.start turns memory medium
 
 -- How the handling of lines ended, of the lines `all`: `lines` are those that were handled, and `turns` their commands,
--- each with its reply. `start` is the disk when the runtime started, and `before` what the sink had taken then.
-pub record Course (told : Bool) (rules : List Rule) (answers : Answers) (ending : endings.Ending) (start : Medium)
-    (before : Option (List ℕ)) (all : List (List ℕ))
-    (now : Option (List ℕ)) (medium : Medium) : Type 0 where
+-- each with its reply.
+pub record Course (from : Outset) (ending : endings.Ending) (all : List (List ℕ)) (now : Option (List ℕ))
+    (medium : Medium) : Type 0 where
   pub lines : List (List ℕ)
   pub turns : List Turn
   pub gives : Give lines (events_of turns)
-  pub ends : EndsBy ending lines all turns before now
-  pub failures : CountsFailures (ending ≢ endings.device) start.faults turns medium.faults
-  pub disk : IsTrue told → DiskSide (record { rules = rules; answers = answers }) ending
-      (record { lines = lines; all = all; turns = turns; before = before; now = now }) start medium
+  pub ends : EndsBy ending lines all turns from.before now
+  pub failures : CountsFailures (ending ≢ endings.device) from.start.faults turns medium.faults
+  pub disk : IsTrue from.told → DiskSide from.converters ending
+      (record { lines = lines; all = all; turns = turns; before = from.before; now = now }) from.start medium
 
 -- ---- bytes
 
@@ -164,32 +189,40 @@ with_feed line = line ++ 10 ∷ []
 abbrev pub HasNoFeed : List ℕ → Type 0
 HasNoFeed bytes = has_feed bytes ≡ false
 
--- The bytes `given` were taken since the runtime started on the disk `start`, when the sink had taken `before`: all
--- their whole lines are handled, which are `number`, and of the rest a prefix is kept, of at most 262145 bytes, one
--- more than a line may have.
-pub record Reached (told : Bool) (rules : List Rule) (answers : Answers) (start : Medium) (before : Option (List ℕ))
-    (given : List ℕ) (now : Option (List ℕ))
-    (memory : Memory) (medium : Medium) (kept : List ℕ) (number : ℕ) : Type 0 where
+-- the reader at one moment: what its runtime keeps in memory, the prefix that it keeps of a line, and the number of
+-- lines that it counted
+pub record ReaderAt : Type 0 where
+  pub memory : Memory
+  pub kept : List ℕ
+  pub number : ℕ
+
+abbrev pub reading : Memory → (kept : List ℕ) → (number : ℕ) → ReaderAt
+reading memory kept number = record { memory = memory; kept = kept; number = number }
+
+-- The bytes `given` were taken since the runtime started: all their whole lines are handled, and of the rest a prefix
+-- is kept, of at most 262145 bytes, one more than a line may have.
+pub record Reached (from : Outset) (given : List ℕ) (now : Option (List ℕ)) (reader : ReaderAt)
+    (medium : Medium) : Type 0 where
   pub lines : List (List ℕ)
   pub rest : List ℕ
   pub split : given ≡ flat_map with_feed lines ++ rest
   pub clean : AllByRecursion HasNoFeed lines
   pub clean_rest : HasNoFeed rest
-  pub kept_is : kept ≡ take 262145 rest
-  pub number_is : number ≡ length lines
-  pub handled : Handled told rules answers start before lines now memory medium
+  pub kept_is : reader.kept ≡ take 262145 rest
+  pub number_is : reader.number ≡ length lines
+  pub handled : Handled from lines now reader.memory medium
 
 -- The input that was read, of at most 67108864 bytes (`INPUT_BYTES`), and what came of it; `ended` says that its end
 -- was seen.
-pub record RanOverInput (told : Bool) (rules : List Rule) (answers : Answers) (ending : Ending) (start : Medium)
-    (left_before left_now before now : Option (List ℕ)) (medium : Medium) : Type 0 where
+pub record RanOverInput (from : Outset) (ending : Ending) (left_before left_now now : Option (List ℕ))
+    (medium : Medium) : Type 0 where
   pub given : List ℕ
   pub taken : Consumes left_before left_now given
   pub bound : length given ≤ 67108864
   pub ended : Bool
   pub end_seen : IsTrue ended → IsAtEnd left_now × (length given < 67108864)
   pub input : IsInput (ending_of ending) ended (length given)
-  pub course : Course told rules answers (ending_of ending) start before (lines_of ended given) now medium
+  pub course : Course from (ending_of ending) (lines_of ended given) now medium
 
 -- ---- an input that is read whole
 
@@ -216,17 +249,17 @@ pub record Tallies (replies : List Reply) (tally : Tally) : Type 0 where
   pub size : tally.size ≡ size_given replies
 
 -- These lines were handled since the start: each gave a command, and the replies are counted.
-pub record Counted (told : Bool) (rules : List Rule) (answers : Answers) (start : Medium) (lines : List (List ℕ))
-    (memory : Memory) (tally : Tally) (medium : Medium) : Type 0 where
+pub record Counted (from : Outset) (lines : List (List ℕ)) (memory : Memory) (tally : Tally)
+    (medium : Medium) : Type 0 where
   pub turns : List Turn
   pub gives : Give lines (events_of turns)
   pub each : length turns ≡ length lines
-  pub goes : Goes told rules answers start turns memory medium
+  pub goes : Goes from.told from.converters from.start turns memory medium
   pub tallies : Tallies (replies_of turns) tally
 
 -- memory ran out in the handling of the lines `all`, of which no reply is written
-abbrev pub RunsShort : (told : Bool) → List Rule → Answers → (start : Medium) → (all : List (List ℕ)) → Medium → Type 0
-RunsShort told rules answers start all medium = Course told rules answers endings.memory start None all None medium
+abbrev pub RunsShort : Outset → (all : List (List ℕ)) → Medium → Type 0
+RunsShort from all medium = Course from endings.memory all None medium
 
 -- A runtime that started on a disk which was formatted before; no more was written until then than the formatting of
 -- eight roots costs, and no root lacks anything, so that the start writes nothing.

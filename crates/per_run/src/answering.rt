@@ -2,14 +2,14 @@
 
 ghost use Rattle.std.specs.Prelude.{◌≡◌, ℕ, List, IsTrue, None, ◌≢◌};
 ghost use Rattle.disk_model.specs.Medium.{Elapses};
-ghost use Rattle.migrate_fns.specs.Stored.{answers_of, rules_of};
 ghost use Rattle.command_text.specs.Grammar.{IsEvent, IsLine};
 ghost use Rattle.command_text.specs.declared.lines.Line.{Line};
 ghost use Rattle.run_model.specs.Runtimes.{world_of};
+ghost use Rattle.run_model.specs.Edges.{converters_of};
 ghost use Rattle.per_runtime.specs.Memories.{IsRuntime, memory_of};
 ghost use Rattle.per_runtime.specs.Needs.{CommandMayStarve};
 ghost use Rattle.per_run.specs.Needs.{LineMayStarve};
-ghost use Rattle.per_run.specs.Steps.{IsLineOutcome};
+ghost use Rattle.per_run.specs.Steps.{IsLineOutcome, runtime_at};
 ghost use Rattle.per_run.specs.declared.answering.LineOutcome.{LineOutcome};
 
 use command_text::{Event, Line, LineError, Reply, parse_line};
@@ -45,9 +45,8 @@ pub fn answer_line<D: Disk>(
 ) -> LineOutcome
     requires { IsRuntime D.told (D.medium disk.old) runtime.old }
     // What came of the line, from the memory and the disk before it to those after it.
-    ensures answered { IsLineOutcome D.told D.medium (rules_of migrations.now) (answers_of migrations.now) text.now
-        (memory_of runtime.old) (memory_of runtime.new)
-        disk.old disk.new result }
+    ensures answered { IsLineOutcome D.Disk (converters_of migrations.now) text.now
+        (runtime_at (memory_of runtime.old) disk.old) (runtime_at (memory_of runtime.new) disk.new) result }
     // The runtime stays in use, unless memory ran out.
     ensures memory { result ≢ LineOutcome.OutOfMemory → IsRuntime D.told (D.medium disk.new) runtime.new }
     // Memory runs out only for a line that has arguments, or for a command that may need it.
@@ -75,8 +74,8 @@ fn answer<D: Disk>(
     requires event { IsEvent event.now }
     requires memory { IsRuntime D.told (D.medium disk.old) runtime.old }
     ensures answered { (text : List ℕ) → IsLine text (Line.Event event.now)
-        → IsLineOutcome D.told D.medium (rules_of migrations.now) (answers_of migrations.now) text
-        (memory_of runtime.old) (memory_of runtime.new) disk.old disk.new result }
+        → IsLineOutcome D.Disk (converters_of migrations.now) text (runtime_at (memory_of runtime.old) disk.old)
+        (runtime_at (memory_of runtime.new) disk.new) result }
     ensures memory { result ≢ LineOutcome.OutOfMemory → IsRuntime D.told (D.medium disk.new) runtime.new }
     ensures needs { IsTrue D.told → result ≡ LineOutcome.OutOfMemory
         → CommandMayStarve (world_of (D.medium disk.old).image (memory_of runtime.old) None) event.now }

@@ -1,9 +1,8 @@
 //! The job that handles a synthetic workload, generated from a number.
 
 ghost use Rattle.std.specs.Prelude.{◌≡◌, ◌⊎◌, ◌≤◌, ◌<◌, ◌+◌, ◌++◌, ◌^◌, ℕ, List, [], ◌∷◌, IfOk, IsErrOf, OnOk};
-ghost use Rattle.std.specs.Prelude.{IsErr, IsTrue, length, map};
+ghost use Rattle.std.specs.Prelude.{IsErr, IsTrue, None, length, map};
 ghost use Rattle.disk_model.specs.Medium.{Elapses};
-ghost use Rattle.migrate_fns.specs.Stored.{answers_of, rules_of};
 ghost use Rattle.per_base.specs.Causes.{Rose};
 ghost use Rattle.command_text.specs.declared.replies.Reply.{Reply};
 ghost use Rattle.command_text.specs.Generated.{generated, generated_lines};
@@ -13,7 +12,7 @@ ghost use Rattle.run_model.specs.Turns.{bytes_now};
 ghost use Rattle.per_runtime.specs.Memories.{IsRuntime, memory_of};
 ghost use Rattle.per_run.specs.Jobs.{BeginWith, Generates, WritesOutput, outputs, summary};
 ghost use Rattle.per_run.specs.Serves.{FormatsWithin};
-ghost use Rattle.per_run.specs.Steps.{Counted, Goes, IsServeBegun, RunsShort, Tallies};
+ghost use Rattle.per_run.specs.Steps.{Counted, Goes, IsServeBegun, RunsShort, Tallies, outset};
 
 use crate::answering::{LineOutcome, answer_line};
 use crate::endings::{DEVICE, DONE, OUT_OF_MEMORY};
@@ -132,15 +131,15 @@ fn handle_all<D: Disk>(
 ) -> Result<(), AllocError>
     requires number { number ≤ 100000 }
     requires memory { IsRuntime D.told (D.medium disk.old) batch.old.runtime }
-    ensures counted { OnOk result ((start : D) → Counted D.told (rules_of migrations.now) (answers_of migrations.now)
-        (D.medium start) [] (memory_of batch.old.runtime) batch.old.tally (D.medium disk.old)
-        → Counted D.told (rules_of migrations.now) (answers_of migrations.now) (D.medium start) (generated number)
+    ensures counted { OnOk result ((start : D) → Counted (outset D.Disk (converters_of migrations.now) start None) []
+        (memory_of batch.old.runtime) batch.old.tally (D.medium disk.old)
+        → Counted (outset D.Disk (converters_of migrations.now) start None) (generated number)
         (memory_of batch.new.runtime) batch.new.tally (D.medium disk.new)) }
     // Where memory ran out, it did so between commands or in one.
-    ensures short { IsErr result → AppLaws → (start : D) → Counted D.told (rules_of migrations.now)
-        (answers_of migrations.now) (D.medium start) [] (memory_of batch.old.runtime) batch.old.tally
-        (D.medium disk.old)
-        → RunsShort D.told (rules_of migrations.now) (answers_of migrations.now) (D.medium start)
+    ensures short { IsErr result → AppLaws → (start : D)
+        → Counted (outset D.Disk (converters_of migrations.now) start None) [] (memory_of batch.old.runtime)
+        batch.old.tally (D.medium disk.old)
+        → RunsShort (outset D.Disk (converters_of migrations.now) start None)
         (generated number) (D.medium disk.new) }
     ensures time { Elapses (D.medium disk.old) (D.medium disk.new) }
 {
@@ -161,18 +160,18 @@ fn handle_each<D: Disk>(
     // These lines come after those that were counted before; below 2 ^ 32 lines no count of replies is at its end.
     ensures counted { OnOk result ((start : D) (before : List (List ℕ))
         → length (before ++ map (λ line. line.now) lines.now) < 2 ^ 32
-        → Counted D.told (rules_of migrations.now) (answers_of migrations.now) (D.medium start) before
-        (memory_of batch.old.runtime) batch.old.tally (D.medium disk.old)
-        → Counted D.told (rules_of migrations.now) (answers_of migrations.now) (D.medium start)
-        (before ++ map (λ line. line.now) lines.now) (memory_of batch.new.runtime) batch.new.tally
-        (D.medium disk.new)) }
+        → Counted (outset D.Disk (converters_of migrations.now) start None) before (memory_of batch.old.runtime)
+        batch.old.tally (D.medium disk.old)
+        → Counted (outset D.Disk (converters_of migrations.now) start None)
+        (before ++ map (λ line. line.now) lines.now) (memory_of batch.new.runtime) batch.new.tally (D.medium disk.new))
+        }
     // Where memory ran out, it did so between commands or in one, of any lines that begin with those before and these.
     ensures short { IsErr result → AppLaws → (start : D) (before all : List (List ℕ))
         → length (before ++ map (λ line. line.now) lines.now) < 2 ^ 32
-        → Counted D.told (rules_of migrations.now) (answers_of migrations.now)
-        (D.medium start) before (memory_of batch.old.runtime) batch.old.tally (D.medium disk.old)
+        → Counted (outset D.Disk (converters_of migrations.now) start None) before (memory_of batch.old.runtime)
+        batch.old.tally (D.medium disk.old)
         → BeginWith (before ++ map (λ line. line.now) lines.now) all
-        → RunsShort D.told (rules_of migrations.now) (answers_of migrations.now) (D.medium start) all
+        → RunsShort (outset D.Disk (converters_of migrations.now) start None) all
         (D.medium disk.new) }
     ensures memory { OnOk result (IsRuntime D.told (D.medium disk.new) batch.new.runtime) }
     ensures time { Elapses (D.medium disk.old) (D.medium disk.new) }
@@ -195,18 +194,17 @@ fn handle_generated<D: Disk>(
     requires memory { IsRuntime D.told (D.medium disk.old) batch.old.runtime }
     // These lines come after those that were counted before; below 2 ^ 32 lines no count of replies is at its end.
     ensures counted { OnOk result ((start : D) (before : List (List ℕ)) → length before + number < 2 ^ 32
-        → Counted D.told (rules_of migrations.now) (answers_of migrations.now) (D.medium start) before
-        (memory_of batch.old.runtime) batch.old.tally (D.medium disk.old)
-        → Counted D.told (rules_of migrations.now) (answers_of migrations.now) (D.medium start)
-        (before ++ generated_lines number 1 number) (memory_of batch.new.runtime) batch.new.tally
-        (D.medium disk.new)) }
+        → Counted (outset D.Disk (converters_of migrations.now) start None) before (memory_of batch.old.runtime)
+        batch.old.tally (D.medium disk.old)
+        → Counted (outset D.Disk (converters_of migrations.now) start None) (before ++ generated_lines number 1 number)
+        (memory_of batch.new.runtime) batch.new.tally (D.medium disk.new)) }
     // Where memory ran out, it did so between commands or in one, of any lines that begin with those before and these.
     ensures short { IsErr result → AppLaws → (start : D) (before all : List (List ℕ))
         → length before + number < 2 ^ 32
-        → Counted D.told (rules_of migrations.now) (answers_of migrations.now)
-        (D.medium start) before (memory_of batch.old.runtime) batch.old.tally (D.medium disk.old)
+        → Counted (outset D.Disk (converters_of migrations.now) start None) before (memory_of batch.old.runtime)
+        batch.old.tally (D.medium disk.old)
         → BeginWith (before ++ generated_lines number 1 number) all
-        → RunsShort D.told (rules_of migrations.now) (answers_of migrations.now) (D.medium start) all
+        → RunsShort (outset D.Disk (converters_of migrations.now) start None) all
         (D.medium disk.new) }
     ensures memory { OnOk result (IsRuntime D.told (D.medium disk.new) batch.new.runtime) }
     ensures time { Elapses (D.medium disk.old) (D.medium disk.new) }
@@ -231,16 +229,16 @@ fn handle_one<D: Disk>(
     requires { IsRuntime D.told (D.medium disk.old) batch.old.runtime }
     // The line comes after those that were counted before; below 2 ^ 32 lines no count of replies is at its end.
     ensures counted { OnOk result ((start : D) (before : List (List ℕ)) → length before < 2 ^ 32
-        → Counted D.told (rules_of migrations.now) (answers_of migrations.now) (D.medium start) before
-        (memory_of batch.old.runtime) batch.old.tally (D.medium disk.old)
-        → Counted D.told (rules_of migrations.now) (answers_of migrations.now) (D.medium start)
-        (before ++ line.now ∷ []) (memory_of batch.new.runtime) batch.new.tally (D.medium disk.new)) }
+        → Counted (outset D.Disk (converters_of migrations.now) start None) before (memory_of batch.old.runtime)
+        batch.old.tally (D.medium disk.old)
+        → Counted (outset D.Disk (converters_of migrations.now) start None) (before ++ line.now ∷ [])
+        (memory_of batch.new.runtime) batch.new.tally (D.medium disk.new)) }
     // Where memory ran out, it did so between commands or in one, of any lines that begin with those before and this.
     ensures short { IsErr result → AppLaws → (start : D) (before all : List (List ℕ))
-        → Counted D.told (rules_of migrations.now) (answers_of migrations.now)
-        (D.medium start) before (memory_of batch.old.runtime) batch.old.tally (D.medium disk.old)
+        → Counted (outset D.Disk (converters_of migrations.now) start None) before (memory_of batch.old.runtime)
+        batch.old.tally (D.medium disk.old)
         → BeginWith (before ++ line.now ∷ []) all
-        → RunsShort D.told (rules_of migrations.now) (answers_of migrations.now) (D.medium start) all
+        → RunsShort (outset D.Disk (converters_of migrations.now) start None) all
         (D.medium disk.new) }
     ensures memory { OnOk result (IsRuntime D.told (D.medium disk.new) batch.new.runtime) }
     ensures time { Elapses (D.medium disk.old) (D.medium disk.new) }

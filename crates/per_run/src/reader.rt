@@ -3,7 +3,6 @@
 ghost use Rattle.std.specs.Prelude.{◌≡◌, ◌≢◌, ◌⊎◌, ◌<◌, ◌+◌, ◌-◌, ◌^◌, ◌++◌, ℕ, List, [], ◌∷◌, true, false, Option};
 ghost use Rattle.std.specs.Prelude.{IfOk, IfErr, IfNone, IfSome, IsErrOf, IsTrue, None, OnOk, length, min, take};
 ghost use Rattle.disk_model.specs.Medium.{Elapses};
-ghost use Rattle.migrate_fns.specs.Stored.{answers_of, rules_of};
 ghost use Rattle.command_text.specs.Grammar.{IsEvent, IsLine};
 ghost use Rattle.command_text.specs.Replies.{HasText, reply_text};
 ghost use Rattle.command_text.specs.declared.lines.Line.{Line};
@@ -11,11 +10,12 @@ ghost use Rattle.run_model.specs.AppLaws.{AppLaws};
 ghost use Rattle.run_model.specs.Endings.{bad_line_text};
 ghost use Rattle.run_model.specs.Lines.{lines_of};
 ghost use Rattle.run_model.specs.Runtimes.{world_of};
+ghost use Rattle.run_model.specs.Edges.{converters_of};
 ghost use Rattle.per_runtime.specs.Memories.{IsRuntime, memory_of};
 ghost use Rattle.per_runtime.specs.Needs.{CommandMayStarve};
 ghost use Rattle.per_run.specs.Needs.{HandlingMayStarve, ReplyMayStarve};
-ghost use Rattle.per_run.specs.Steps.{Blamed, Blames, Course, Handled, HasNoFeed, IsBadLineAnswer, IsBroken};
-ghost use Rattle.per_run.specs.Steps.{PutsOutput, Reached};
+ghost use Rattle.per_run.specs.Steps.{Blamed, Blames, Course, Handled, HasNoFeed, IsBadLineAnswer, IsBroken, outset};
+ghost use Rattle.per_run.specs.Steps.{PutsOutput, Reached, reading, runtime_at};
 ghost use Rattle.per_run.specs.Steps.{ending_of};
 
 use crate::endings::Ending;
@@ -75,18 +75,15 @@ pub fn feed<D: Disk, K: Sink>(
     // not seen (`lines_of false`). `AppLaws` is what `applications_stand` of `run_model` shows.
     ensures goes_on { OnOk result ((start : D) (before : Option (List ℕ)) (given : List ℕ)
         → length (given ++ piece.now) < 2 ^ 63
-        → Reached D.told (rules_of migrations.now) (answers_of migrations.now) (D.medium start) before given
-        (K.written sink.old) (memory_of reader.old.runtime) (D.medium disk.old) reader.old.kept.items
-        reader.old.number
-        → Reached D.told (rules_of migrations.now) (answers_of migrations.now) (D.medium start) before
-        (given ++ piece.now) (K.written sink.new) (memory_of reader.new.runtime) (D.medium disk.new)
-        reader.new.kept.items reader.new.number) }
+        → Reached (outset D.Disk (converters_of migrations.now) start before) given (K.written sink.old)
+        (reading (memory_of reader.old.runtime) reader.old.kept.items reader.old.number) (D.medium disk.old)
+        → Reached (outset D.Disk (converters_of migrations.now) start before) (given ++ piece.now) (K.written sink.new)
+        (reading (memory_of reader.new.runtime) reader.new.kept.items reader.new.number) (D.medium disk.new)) }
     ensures ends { IfErr result (λ ending. AppLaws → (start : D) (before : Option (List ℕ)) (given : List ℕ)
         → length (given ++ piece.now) < 2 ^ 63
-        → Reached D.told (rules_of migrations.now) (answers_of migrations.now) (D.medium start) before given
-        (K.written sink.old) (memory_of reader.old.runtime) (D.medium disk.old) reader.old.kept.items
-        reader.old.number
-        → Course D.told (rules_of migrations.now) (answers_of migrations.now) (ending_of ending) (D.medium start) before
+        → Reached (outset D.Disk (converters_of migrations.now) start before) given (K.written sink.old)
+        (reading (memory_of reader.old.runtime) reader.old.kept.items reader.old.number) (D.medium disk.old)
+        → Course (outset D.Disk (converters_of migrations.now) start before) (ending_of ending)
         (lines_of false (given ++ piece.now)) (K.written sink.new) (D.medium disk.new)) }
     // What the runtime keeps in memory stays in use on the disk. An ending for the sink comes only where its count of
     // failures rose.
@@ -131,17 +128,17 @@ pub fn finish<D: Disk, K: Sink>(
     // (`Course`): all of them are handled, or it was broken off, for the sink only where its count of failures rose.
     // `start`, `before` and `given` are as in `feed`, and the end of the input was seen (`lines_of true`).
     ensures ends { AppLaws → (start : D) (before : Option (List ℕ)) (given : List ℕ) → length given < 2 ^ 63
-        → Reached D.told (rules_of migrations.now) (answers_of migrations.now) (D.medium start) before given
-        (K.written sink.old) (memory_of reader.old.runtime) (D.medium disk.old) reader.old.kept.items
-        reader.old.number
-        → Course D.told (rules_of migrations.now) (answers_of migrations.now) (ending_of result) (D.medium start) before
-        (lines_of true given) (K.written sink.new) (D.medium disk.new) }
+        → Reached (outset D.Disk (converters_of migrations.now) start before) given (K.written sink.old)
+        (reading (memory_of reader.old.runtime) reader.old.kept.items reader.old.number) (D.medium disk.old)
+        → Course (outset D.Disk (converters_of migrations.now) start before) (ending_of result) (lines_of true given)
+        (K.written sink.new) (D.medium disk.new) }
     ensures inner { (result ≡ Ending.AllRead) ⊎ IsBroken result }
     ensures blamed { Blamed result (K.faults sink.old) (K.faults sink.new) }
     // Memory runs out only in the handling of the line that is kept.
     ensures needs { IsTrue D.told → result ≡ Ending.OutOfMemory
-        → HandlingMayStarve D.told (rules_of migrations.now) (answers_of migrations.now) reader.old.kept.items
-        (memory_of reader.old.runtime) (memory_of reader.new.runtime) (D.medium disk.old) (D.medium disk.new) }
+        → HandlingMayStarve D.told (converters_of migrations.now) reader.old.kept.items
+        (runtime_at (memory_of reader.old.runtime) (D.medium disk.old))
+        (runtime_at (memory_of reader.new.runtime) (D.medium disk.new)) }
     ensures time { Elapses (D.medium disk.old) (D.medium disk.new) }
 {
     if reader.kept.as_slice().is_empty() {
@@ -165,24 +162,23 @@ fn feed_line<D: Disk, K: Sink>(
     requires clean { HasNoFeed line.now }
     ensures goes_on { OnOk result ((start : D) (before : Option (List ℕ)) (given : List ℕ)
         → length (given ++ line.now) < 2 ^ 63
-        → Reached D.told (rules_of migrations.now) (answers_of migrations.now) (D.medium start) before given
-        (K.written sink.old) (memory_of reader.old.runtime) (D.medium disk.old) reader.old.kept.items
-        reader.old.number
-        → Reached D.told (rules_of migrations.now) (answers_of migrations.now) (D.medium start) before
-        (given ++ (line.now ++ 10 ∷ [])) (K.written sink.new) (memory_of reader.new.runtime) (D.medium disk.new)
-        reader.new.kept.items reader.new.number) }
+        → Reached (outset D.Disk (converters_of migrations.now) start before) given (K.written sink.old)
+        (reading (memory_of reader.old.runtime) reader.old.kept.items reader.old.number) (D.medium disk.old)
+        → Reached (outset D.Disk (converters_of migrations.now) start before) (given ++ (line.now ++ 10 ∷ []))
+        (K.written sink.new) (reading (memory_of reader.new.runtime) reader.new.kept.items reader.new.number)
+        (D.medium disk.new)) }
     ensures ends { IfErr result (λ ending. AppLaws → (start : D) (before : Option (List ℕ)) (given others : List ℕ)
         → length (given ++ line.now) < 2 ^ 63
-        → Reached D.told (rules_of migrations.now) (answers_of migrations.now) (D.medium start) before given
-        (K.written sink.old) (memory_of reader.old.runtime) (D.medium disk.old) reader.old.kept.items
-        reader.old.number
-        → Course D.told (rules_of migrations.now) (answers_of migrations.now) (ending_of ending) (D.medium start) before
+        → Reached (outset D.Disk (converters_of migrations.now) start before) given (K.written sink.old)
+        (reading (memory_of reader.old.runtime) reader.old.kept.items reader.old.number) (D.medium disk.old)
+        → Course (outset D.Disk (converters_of migrations.now) start before) (ending_of ending)
         (lines_of false (given ++ (line.now ++ 10 ∷ others))) (K.written sink.new) (D.medium disk.new)) }
     ensures memory { OnOk result (IsRuntime D.told (D.medium disk.new) reader.new.runtime) }
     // Memory runs out only where the bytes are put after those that are kept, or in the handling of the line.
     ensures needs { IsTrue D.told → IsErrOf result Ending.OutOfMemory → (reader.old.kept.items ≢ [])
-        ⊎ HandlingMayStarve D.told (rules_of migrations.now) (answers_of migrations.now) (take 262145 line.now)
-        (memory_of reader.old.runtime) (memory_of reader.new.runtime) (D.medium disk.old) (D.medium disk.new) }
+        ⊎ HandlingMayStarve D.told (converters_of migrations.now) (take 262145 line.now)
+        (runtime_at (memory_of reader.old.runtime) (D.medium disk.old))
+        (runtime_at (memory_of reader.new.runtime) (D.medium disk.new)) }
     ensures blames { Blames (K.faults sink.old) (K.faults sink.new) result }
     ensures time { Elapses (D.medium disk.old) (D.medium disk.new) }
 {
@@ -226,23 +222,24 @@ fn handle_whole<D: Disk, K: Sink>(
     requires { IsRuntime D.told (D.medium disk.old) reader.old.runtime }
     ensures goes_on { OnOk result ((start : D) (before : Option (List ℕ)) (lines : List (List ℕ)) (text : List ℕ)
         → take 262145 line.now ≡ take 262145 text
-        → Handled D.told (rules_of migrations.now) (answers_of migrations.now) (D.medium start) before lines
-        (K.written sink.old) (memory_of reader.old.runtime) (D.medium disk.old)
-        → Handled D.told (rules_of migrations.now) (answers_of migrations.now) (D.medium start) before
-        (lines ++ text ∷ []) (K.written sink.new) (memory_of reader.new.runtime) (D.medium disk.new)) }
+        → Handled (outset D.Disk (converters_of migrations.now) start before) lines (K.written sink.old)
+        (memory_of reader.old.runtime) (D.medium disk.old)
+        → Handled (outset D.Disk (converters_of migrations.now) start before) (lines ++ text ∷ []) (K.written sink.new)
+        (memory_of reader.new.runtime) (D.medium disk.new)) }
     ensures counts { OnOk result (reader.new.number ≡ min (reader.old.number + 1) (2 ^ 64 - 1)) }
     ensures keeps { OnOk result (reader.new.kept.items ≡ reader.old.kept.items) }
     ensures ends { IfErr result (λ ending. AppLaws → (start : D) (before : Option (List ℕ))
         (lines others : List (List ℕ)) (text : List ℕ)
         → take 262145 line.now ≡ take 262145 text → reader.old.number ≡ length lines → length lines < 2 ^ 63
-        → Handled D.told (rules_of migrations.now) (answers_of migrations.now) (D.medium start) before lines
-        (K.written sink.old) (memory_of reader.old.runtime) (D.medium disk.old)
-        → Course D.told (rules_of migrations.now) (answers_of migrations.now) (ending_of ending) (D.medium start) before
+        → Handled (outset D.Disk (converters_of migrations.now) start before) lines (K.written sink.old)
+        (memory_of reader.old.runtime) (D.medium disk.old)
+        → Course (outset D.Disk (converters_of migrations.now) start before) (ending_of ending)
         (lines ++ text ∷ others) (K.written sink.new) (D.medium disk.new)) }
     ensures memory { OnOk result (IsRuntime D.told (D.medium disk.new) reader.new.runtime) }
     ensures needs { IsTrue D.told → IsErrOf result Ending.OutOfMemory
-        → HandlingMayStarve D.told (rules_of migrations.now) (answers_of migrations.now) (take 262145 line.now)
-        (memory_of reader.old.runtime) (memory_of reader.new.runtime) (D.medium disk.old) (D.medium disk.new) }
+        → HandlingMayStarve D.told (converters_of migrations.now) (take 262145 line.now)
+        (runtime_at (memory_of reader.old.runtime) (D.medium disk.old))
+        (runtime_at (memory_of reader.new.runtime) (D.medium disk.new)) }
     ensures blames { Blames (K.faults sink.old) (K.faults sink.new) result }
     ensures time { Elapses (D.medium disk.old) (D.medium disk.new) }
 {
@@ -276,23 +273,24 @@ fn handle_line<D: Disk, K: Sink>(
     requires { IsRuntime D.told (D.medium disk.old) reader.old.runtime }
     ensures goes_on { OnOk result ((start : D) (before : Option (List ℕ)) (lines : List (List ℕ)) (text : List ℕ)
         → reader.old.kept.items ≡ take 262145 text
-        → Handled D.told (rules_of migrations.now) (answers_of migrations.now) (D.medium start) before lines
-        (K.written sink.old) (memory_of reader.old.runtime) (D.medium disk.old)
-        → Handled D.told (rules_of migrations.now) (answers_of migrations.now) (D.medium start) before
-        (lines ++ text ∷ []) (K.written sink.new) (memory_of reader.new.runtime) (D.medium disk.new)) }
+        → Handled (outset D.Disk (converters_of migrations.now) start before) lines (K.written sink.old)
+        (memory_of reader.old.runtime) (D.medium disk.old)
+        → Handled (outset D.Disk (converters_of migrations.now) start before) (lines ++ text ∷ []) (K.written sink.new)
+        (memory_of reader.new.runtime) (D.medium disk.new)) }
     ensures counts { OnOk result (reader.new.number ≡ min (reader.old.number + 1) (2 ^ 64 - 1)) }
     ensures clears { OnOk result (reader.new.kept.items ≡ []) }
     ensures ends { IfErr result (λ ending. AppLaws → (start : D) (before : Option (List ℕ))
         (lines others : List (List ℕ)) (text : List ℕ)
         → reader.old.kept.items ≡ take 262145 text → reader.old.number ≡ length lines → length lines < 2 ^ 63
-        → Handled D.told (rules_of migrations.now) (answers_of migrations.now) (D.medium start) before lines
-        (K.written sink.old) (memory_of reader.old.runtime) (D.medium disk.old)
-        → Course D.told (rules_of migrations.now) (answers_of migrations.now) (ending_of ending) (D.medium start) before
+        → Handled (outset D.Disk (converters_of migrations.now) start before) lines (K.written sink.old)
+        (memory_of reader.old.runtime) (D.medium disk.old)
+        → Course (outset D.Disk (converters_of migrations.now) start before) (ending_of ending)
         (lines ++ text ∷ others) (K.written sink.new) (D.medium disk.new)) }
     ensures memory { OnOk result (IsRuntime D.told (D.medium disk.new) reader.new.runtime) }
     ensures needs { IsTrue D.told → IsErrOf result Ending.OutOfMemory
-        → HandlingMayStarve D.told (rules_of migrations.now) (answers_of migrations.now) reader.old.kept.items
-        (memory_of reader.old.runtime) (memory_of reader.new.runtime) (D.medium disk.old) (D.medium disk.new) }
+        → HandlingMayStarve D.told (converters_of migrations.now) reader.old.kept.items
+        (runtime_at (memory_of reader.old.runtime) (D.medium disk.old))
+        (runtime_at (memory_of reader.new.runtime) (D.medium disk.new)) }
     ensures blames { Blames (K.faults sink.old) (K.faults sink.new) result }
     ensures time { Elapses (D.medium disk.old) (D.medium disk.new) }
 {
@@ -330,23 +328,24 @@ fn handle_text<D: Disk, K: Sink>(
     requires { IsRuntime D.told (D.medium disk.old) runtime.old }
     ensures goes_on { OnOk result ((start : D) (before : Option (List ℕ)) (lines : List (List ℕ)) (whole : List ℕ)
         → text.now ≡ take 262145 whole
-        → Handled D.told (rules_of migrations.now) (answers_of migrations.now) (D.medium start) before lines
-        (K.written sink.old) (memory_of runtime.old) (D.medium disk.old)
-        → Handled D.told (rules_of migrations.now) (answers_of migrations.now) (D.medium start) before
-        (lines ++ whole ∷ []) (K.written sink.new) (memory_of runtime.new) (D.medium disk.new)) }
+        → Handled (outset D.Disk (converters_of migrations.now) start before) lines (K.written sink.old)
+        (memory_of runtime.old) (D.medium disk.old)
+        → Handled (outset D.Disk (converters_of migrations.now) start before) (lines ++ whole ∷ [])
+        (K.written sink.new) (memory_of runtime.new) (D.medium disk.new)) }
     ensures ends { IfErr result (λ ending. AppLaws → (start : D) (before : Option (List ℕ))
         (lines others : List (List ℕ)) (whole : List ℕ)
         → text.now ≡ take 262145 whole → number ≡ length lines + 1
-        → Handled D.told (rules_of migrations.now) (answers_of migrations.now) (D.medium start) before lines
-        (K.written sink.old) (memory_of runtime.old) (D.medium disk.old)
-        → Course D.told (rules_of migrations.now) (answers_of migrations.now) (ending_of ending) (D.medium start) before
+        → Handled (outset D.Disk (converters_of migrations.now) start before) lines (K.written sink.old)
+        (memory_of runtime.old) (D.medium disk.old)
+        → Course (outset D.Disk (converters_of migrations.now) start before) (ending_of ending)
         (lines ++ whole ∷ others) (K.written sink.new) (D.medium disk.new)) }
     ensures memory { OnOk result (IsRuntime D.told (D.medium disk.new) runtime.new) }
     // Memory runs out only for a line that may need it, for the reply's text once the command is done, or for the
     // answer to a line outside the grammar.
     ensures needs { IsTrue D.told → IsErrOf result Ending.OutOfMemory
-        → HandlingMayStarve D.told (rules_of migrations.now) (answers_of migrations.now) text.now
-        (memory_of runtime.old) (memory_of runtime.new) (D.medium disk.old) (D.medium disk.new) }
+        → HandlingMayStarve D.told (converters_of migrations.now) text.now
+        (runtime_at (memory_of runtime.old) (D.medium disk.old))
+        (runtime_at (memory_of runtime.new) (D.medium disk.new)) }
     ensures blames { Blames (K.faults sink.old) (K.faults sink.new) result }
     ensures time { Elapses (D.medium disk.old) (D.medium disk.new) }
 {
@@ -376,24 +375,25 @@ fn handle_event<D: Disk, K: Sink>(
     requires memory { IsRuntime D.told (D.medium disk.old) runtime.old }
     ensures goes_on { OnOk result ((start : D) (before : Option (List ℕ)) (lines : List (List ℕ)) (text : List ℕ)
         → IsLine text (Line.Event event.now)
-        → Handled D.told (rules_of migrations.now) (answers_of migrations.now) (D.medium start) before lines
-        (K.written sink.old) (memory_of runtime.old) (D.medium disk.old)
-        → Handled D.told (rules_of migrations.now) (answers_of migrations.now) (D.medium start) before
-        (lines ++ text ∷ []) (K.written sink.new) (memory_of runtime.new) (D.medium disk.new)) }
+        → Handled (outset D.Disk (converters_of migrations.now) start before) lines (K.written sink.old)
+        (memory_of runtime.old) (D.medium disk.old)
+        → Handled (outset D.Disk (converters_of migrations.now) start before) (lines ++ text ∷ []) (K.written sink.new)
+        (memory_of runtime.new) (D.medium disk.new)) }
     ensures ends { IfErr result (λ ending. AppLaws → (start : D) (before : Option (List ℕ))
         (lines others : List (List ℕ)) (text : List ℕ)
         → IsLine text (Line.Event event.now)
-        → Handled D.told (rules_of migrations.now) (answers_of migrations.now) (D.medium start) before lines
-        (K.written sink.old) (memory_of runtime.old) (D.medium disk.old)
-        → Course D.told (rules_of migrations.now) (answers_of migrations.now) (ending_of ending) (D.medium start) before
+        → Handled (outset D.Disk (converters_of migrations.now) start before) lines (K.written sink.old)
+        (memory_of runtime.old) (D.medium disk.old)
+        → Course (outset D.Disk (converters_of migrations.now) start before) (ending_of ending)
         (lines ++ text ∷ others) (K.written sink.new) (D.medium disk.new)) }
     ensures memory { OnOk result (IsRuntime D.told (D.medium disk.new) runtime.new) }
     // Memory runs out only for a command that may need it, or for the reply's text once the command is done.
     ensures needs { IsTrue D.told → IsErrOf result Ending.OutOfMemory → (text : List ℕ)
         → IsLine text (Line.Event event.now)
         → CommandMayStarve (world_of (D.medium disk.old).image (memory_of runtime.old) None) event.now
-        ⊎ ReplyMayStarve D.told (rules_of migrations.now) (answers_of migrations.now) text
-        (memory_of runtime.old) (memory_of runtime.new) (D.medium disk.old) (D.medium disk.new) }
+        ⊎ ReplyMayStarve D.told (converters_of migrations.now) text
+        (runtime_at (memory_of runtime.old) (D.medium disk.old))
+        (runtime_at (memory_of runtime.new) (D.medium disk.new)) }
     ensures blames { Blames (K.faults sink.old) (K.faults sink.new) result }
     ensures time { Elapses (D.medium disk.old) (D.medium disk.new) }
 {

@@ -2,13 +2,12 @@
 
 ghost use Rattle.std.specs.Prelude.{◌≡◌, ◌<◌, ℕ, List, [], Option, length};
 ghost use Rattle.disk_model.specs.Medium.{Elapses};
-ghost use Rattle.migrate_fns.specs.Stored.{answers_of, rules_of};
 ghost use Rattle.per_base.specs.Causes.{Rose};
 ghost use Rattle.run_model.specs.AppLaws.{AppLaws};
 ghost use Rattle.run_model.specs.Edges.{converters_of, edges};
 ghost use Rattle.run_model.specs.Runs.{Run};
 ghost use Rattle.per_runtime.specs.Memories.{IsRuntime, memory_of};
-ghost use Rattle.per_run.specs.Steps.{Blamed, Handled, RanOverInput, Reached};
+ghost use Rattle.per_run.specs.Steps.{Blamed, Handled, RanOverInput, Reached, outset, reading};
 
 use crate::endings::{DEVICE, Ending, OUT_OF_MEMORY};
 use crate::input::{INPUT_BYTES, PIECE_BYTES, read_piece, zeros};
@@ -54,11 +53,10 @@ fn handle_input<D: Disk, S: Source, K: Sink>(
 ) -> Ending
     requires { IsRuntime D.told (D.medium disk.old) runtime }
     ensures ran { AppLaws → (start : D)
-        → Handled D.told (rules_of migrations.now) (answers_of migrations.now) (D.medium start) (K.written sink.old) []
-        (K.written sink.old) (memory_of runtime) (D.medium disk.old)
-        → RanOverInput D.told (rules_of migrations.now) (answers_of migrations.now) result (D.medium start)
-        (S.left source.old)
-        (S.left source.new) (K.written sink.old) (K.written sink.new) (D.medium disk.new) }
+        → Handled (outset D.Disk (converters_of migrations.now) start (K.written sink.old)) [] (K.written sink.old)
+        (memory_of runtime) (D.medium disk.old)
+        → RanOverInput (outset D.Disk (converters_of migrations.now) start (K.written sink.old)) result
+        (S.left source.old) (S.left source.new) (K.written sink.new) (D.medium disk.new) }
     ensures blamed { Blamed result (K.faults sink.old) (K.faults sink.new) }
     ensures source_failed { result ≡ Ending.Source → Rose (S.faults source.old) (S.faults source.new) }
     ensures time { Elapses (D.medium disk.old) (D.medium disk.new) }
@@ -91,12 +89,10 @@ fn read_all<D: Disk, S: Source, K: Sink>(
     requires room { 0 < length buffer.old }
     requires memory { IsRuntime D.told (D.medium disk.old) reader.old.runtime }
     ensures ran { AppLaws → (start : D) (before : Option (List ℕ))
-        → Reached D.told (rules_of migrations.now) (answers_of migrations.now) (D.medium start) before []
-        (K.written sink.old) (memory_of reader.old.runtime) (D.medium disk.old) reader.old.kept.items
-        reader.old.number
-        → RanOverInput D.told (rules_of migrations.now) (answers_of migrations.now) result (D.medium start)
-        (S.left source.old)
-        (S.left source.new) before (K.written sink.new) (D.medium disk.new) }
+        → Reached (outset D.Disk (converters_of migrations.now) start before) [] (K.written sink.old)
+        (reading (memory_of reader.old.runtime) reader.old.kept.items reader.old.number) (D.medium disk.old)
+        → RanOverInput (outset D.Disk (converters_of migrations.now) start before) result (S.left source.old)
+        (S.left source.new) (K.written sink.new) (D.medium disk.new) }
     ensures blamed { Blamed result (K.faults sink.old) (K.faults sink.new) }
     ensures source_failed { result ≡ Ending.Source → Rose (S.faults source.old) (S.faults source.new) }
     ensures time { Elapses (D.medium disk.old) (D.medium disk.new) }

@@ -3,7 +3,6 @@
 ghost use Rattle.std.specs.Prelude.{◌≡◌, ◌<◌, ◌+◌, ◌-◌, ◌^◌, ◌++◌, ℕ, List, [], ◌∷◌, Option, IfErr, OnOk, false};
 ghost use Rattle.std.specs.Prelude.{length, min, take};
 ghost use Rattle.disk_model.specs.Medium.{Elapses};
-ghost use Rattle.migrate_fns.specs.Stored.{answers_of, rules_of};
 ghost use Rattle.per_base.specs.Causes.{Rose};
 ghost use Rattle.run_model.specs.AppLaws.{AppLaws};
 ghost use Rattle.run_model.specs.Edges.{converters_of, edges};
@@ -11,7 +10,7 @@ ghost use Rattle.run_model.specs.Lines.{lines_of};
 ghost use Rattle.per_runtime.specs.Memories.{IsRuntime, memory_of};
 ghost use Rattle.per_run.specs.Serves.{Heard, Serves, lines_in, next_line_number};
 ghost use Rattle.per_run.specs.Serving.{Hearing, HearsOne, Listened, Served, Service};
-ghost use Rattle.per_run.specs.Steps.{Blamed, Blames, Goes, HasNoFeed, ending_of};
+ghost use Rattle.per_run.specs.Steps.{Blamed, Blames, Goes, HasNoFeed, ending_of, outset, reading};
 
 use crate::answering::{LineOutcome, answer_line};
 use crate::endings::{DEVICE, Ending, OUT_OF_MEMORY};
@@ -62,10 +61,10 @@ fn serve_input<D: Disk, S: Source, K: Sink>(
 ) -> Ending
     requires { IsRuntime D.told (D.medium disk.old) runtime }
     ensures served { AppLaws → (start : D)
-        → Hearing D.told (rules_of migrations.now) (answers_of migrations.now) (D.medium start) (K.written sink.old) []
-        (K.written sink.old) (memory_of runtime) (D.medium disk.old)
-        → Served D.told (rules_of migrations.now) (answers_of migrations.now) result (D.medium start)
-        (S.left source.old) (S.left source.new) (K.written sink.old) (K.written sink.new) (D.medium disk.new) }
+        → Hearing (outset D.Disk (converters_of migrations.now) start (K.written sink.old)) [] (K.written sink.old)
+        (memory_of runtime) (D.medium disk.old)
+        → Served (outset D.Disk (converters_of migrations.now) start (K.written sink.old)) result (S.left source.old)
+        (S.left source.new) (K.written sink.new) (D.medium disk.new) }
     ensures blamed { Blamed result (K.faults sink.old) (K.faults sink.new) }
     ensures source_failed { result ≡ Ending.Source → Rose (S.faults source.old) (S.faults source.new) }
     ensures time { Elapses (D.medium disk.old) (D.medium disk.new) }
@@ -98,11 +97,10 @@ fn serve_all<D: Disk, S: Source, K: Sink>(
     requires room { 0 < length buffer.old }
     requires memory { IsRuntime D.told (D.medium disk.old) reader.old.runtime }
     ensures served { AppLaws → (start : D) (before : Option (List ℕ))
-        → Listened D.told (rules_of migrations.now) (answers_of migrations.now) (D.medium start) before []
-        (K.written sink.old) (memory_of reader.old.runtime) (D.medium disk.old) reader.old.kept.items
-        reader.old.number
-        → Served D.told (rules_of migrations.now) (answers_of migrations.now) result (D.medium start)
-        (S.left source.old) (S.left source.new) before (K.written sink.new) (D.medium disk.new) }
+        → Listened (outset D.Disk (converters_of migrations.now) start before) [] (K.written sink.old)
+        (reading (memory_of reader.old.runtime) reader.old.kept.items reader.old.number) (D.medium disk.old)
+        → Served (outset D.Disk (converters_of migrations.now) start before) result (S.left source.old)
+        (S.left source.new) (K.written sink.new) (D.medium disk.new) }
     ensures blamed { Blamed result (K.faults sink.old) (K.faults sink.new) }
     ensures source_failed { result ≡ Ending.Source → Rose (S.faults source.old) (S.faults source.new) }
     ensures time { Elapses (D.medium disk.old) (D.medium disk.new) }
@@ -131,18 +129,16 @@ fn serve_piece<D: Disk, K: Sink>(
 ) -> Result<(), Ending>
     requires { IsRuntime D.told (D.medium disk.old) reader.old.runtime }
     ensures goes_on { OnOk result ((start : D) (before : Option (List ℕ)) (given : List ℕ)
-        → Listened D.told (rules_of migrations.now) (answers_of migrations.now) (D.medium start) before given
-        (K.written sink.old) (memory_of reader.old.runtime) (D.medium disk.old) reader.old.kept.items
-        reader.old.number
-        → Listened D.told (rules_of migrations.now) (answers_of migrations.now) (D.medium start) before
-        (given ++ piece.now) (K.written sink.new) (memory_of reader.new.runtime) (D.medium disk.new)
-        reader.new.kept.items reader.new.number) }
+        → Listened (outset D.Disk (converters_of migrations.now) start before) given (K.written sink.old)
+        (reading (memory_of reader.old.runtime) reader.old.kept.items reader.old.number) (D.medium disk.old)
+        → Listened (outset D.Disk (converters_of migrations.now) start before) (given ++ piece.now)
+        (K.written sink.new) (reading (memory_of reader.new.runtime) reader.new.kept.items reader.new.number)
+        (D.medium disk.new)) }
     ensures ends { IfErr result (λ ending. AppLaws → (start : D) (before : Option (List ℕ)) (given : List ℕ)
-        → Listened D.told (rules_of migrations.now) (answers_of migrations.now) (D.medium start) before given
-        (K.written sink.old) (memory_of reader.old.runtime) (D.medium disk.old) reader.old.kept.items
-        reader.old.number
-        → Service D.told (rules_of migrations.now) (answers_of migrations.now) (ending_of ending) (D.medium start)
-        before (lines_of false (given ++ piece.now)) (K.written sink.new) (D.medium disk.new)) }
+        → Listened (outset D.Disk (converters_of migrations.now) start before) given (K.written sink.old)
+        (reading (memory_of reader.old.runtime) reader.old.kept.items reader.old.number) (D.medium disk.old)
+        → Service (outset D.Disk (converters_of migrations.now) start before) (ending_of ending)
+        (lines_of false (given ++ piece.now)) (K.written sink.new) (D.medium disk.new)) }
     ensures memory { OnOk result (IsRuntime D.told (D.medium disk.new) reader.new.runtime) }
     ensures blames { Blames (K.faults sink.old) (K.faults sink.new) result }
     ensures time { Elapses (D.medium disk.old) (D.medium disk.new) }
@@ -171,18 +167,16 @@ fn serve_next<D: Disk, K: Sink>(
     requires memory { IsRuntime D.told (D.medium disk.old) reader.old.runtime }
     requires clean { HasNoFeed line.now }
     ensures goes_on { OnOk result ((start : D) (before : Option (List ℕ)) (given : List ℕ)
-        → Listened D.told (rules_of migrations.now) (answers_of migrations.now) (D.medium start) before given
-        (K.written sink.old) (memory_of reader.old.runtime) (D.medium disk.old) reader.old.kept.items
-        reader.old.number
-        → Listened D.told (rules_of migrations.now) (answers_of migrations.now) (D.medium start) before
-        (given ++ (line.now ++ 10 ∷ [])) (K.written sink.new) (memory_of reader.new.runtime) (D.medium disk.new)
-        reader.new.kept.items reader.new.number) }
+        → Listened (outset D.Disk (converters_of migrations.now) start before) given (K.written sink.old)
+        (reading (memory_of reader.old.runtime) reader.old.kept.items reader.old.number) (D.medium disk.old)
+        → Listened (outset D.Disk (converters_of migrations.now) start before) (given ++ (line.now ++ 10 ∷ []))
+        (K.written sink.new) (reading (memory_of reader.new.runtime) reader.new.kept.items reader.new.number)
+        (D.medium disk.new)) }
     ensures ends { IfErr result (λ ending. AppLaws → (start : D) (before : Option (List ℕ)) (given others : List ℕ)
-        → Listened D.told (rules_of migrations.now) (answers_of migrations.now) (D.medium start) before given
-        (K.written sink.old) (memory_of reader.old.runtime) (D.medium disk.old) reader.old.kept.items
-        reader.old.number
-        → Service D.told (rules_of migrations.now) (answers_of migrations.now) (ending_of ending) (D.medium start)
-        before (lines_of false (given ++ (line.now ++ 10 ∷ others))) (K.written sink.new) (D.medium disk.new)) }
+        → Listened (outset D.Disk (converters_of migrations.now) start before) given (K.written sink.old)
+        (reading (memory_of reader.old.runtime) reader.old.kept.items reader.old.number) (D.medium disk.old)
+        → Service (outset D.Disk (converters_of migrations.now) start before) (ending_of ending)
+        (lines_of false (given ++ (line.now ++ 10 ∷ others))) (K.written sink.new) (D.medium disk.new)) }
     ensures memory { OnOk result (IsRuntime D.told (D.medium disk.new) reader.new.runtime) }
     ensures blames { Blames (K.faults sink.old) (K.faults sink.new) result }
     ensures time { Elapses (D.medium disk.old) (D.medium disk.new) }
@@ -207,19 +201,19 @@ fn serve_line<D: Disk, K: Sink>(
     requires { IsRuntime D.told (D.medium disk.old) reader.old.runtime }
     ensures goes_on { OnOk result ((start : D) (before : Option (List ℕ)) (heard : List Heard) (text : List ℕ)
         → reader.old.kept.items ≡ take 262145 text → reader.old.number ≡ min (length heard) (2 ^ 64 - 1)
-        → Hearing D.told (rules_of migrations.now) (answers_of migrations.now) (D.medium start) before heard
-        (K.written sink.old) (memory_of reader.old.runtime) (D.medium disk.old)
-        → HearsOne D.told (rules_of migrations.now) (answers_of migrations.now) (D.medium start) before heard text
-        (K.written sink.new) (memory_of reader.new.runtime) (D.medium disk.new)) }
+        → Hearing (outset D.Disk (converters_of migrations.now) start before) heard (K.written sink.old)
+        (memory_of reader.old.runtime) (D.medium disk.old)
+        → HearsOne (outset D.Disk (converters_of migrations.now) start before) heard text (K.written sink.new)
+        (memory_of reader.new.runtime) (D.medium disk.new)) }
     ensures counts { OnOk result (reader.new.number ≡ min (reader.old.number + 1) (2 ^ 64 - 1)) }
     ensures clears { OnOk result (reader.new.kept.items ≡ []) }
     ensures ends { IfErr result (λ ending. AppLaws → (start : D) (before : Option (List ℕ))
         (heard : List Heard) (others : List (List ℕ)) (text : List ℕ)
         → reader.old.kept.items ≡ take 262145 text → reader.old.number ≡ min (length heard) (2 ^ 64 - 1)
-        → Hearing D.told (rules_of migrations.now) (answers_of migrations.now) (D.medium start) before heard
-        (K.written sink.old) (memory_of reader.old.runtime) (D.medium disk.old)
-        → Service D.told (rules_of migrations.now) (answers_of migrations.now) (ending_of ending) (D.medium start)
-        before (lines_in heard ++ text ∷ others) (K.written sink.new) (D.medium disk.new)) }
+        → Hearing (outset D.Disk (converters_of migrations.now) start before) heard (K.written sink.old)
+        (memory_of reader.old.runtime) (D.medium disk.old)
+        → Service (outset D.Disk (converters_of migrations.now) start before) (ending_of ending)
+        (lines_in heard ++ text ∷ others) (K.written sink.new) (D.medium disk.new)) }
     ensures memory { OnOk result (IsRuntime D.told (D.medium disk.new) reader.new.runtime) }
     ensures blames { Blames (K.faults sink.old) (K.faults sink.new) result }
     ensures time { Elapses (D.medium disk.old) (D.medium disk.new) }
@@ -258,17 +252,17 @@ fn serve_text<D: Disk, K: Sink>(
     requires { IsRuntime D.told (D.medium disk.old) runtime.old }
     ensures goes_on { OnOk result ((start : D) (before : Option (List ℕ)) (heard : List Heard) (whole : List ℕ)
         → text.now ≡ take 262145 whole → number ≡ next_line_number (length heard)
-        → Hearing D.told (rules_of migrations.now) (answers_of migrations.now) (D.medium start) before heard
-        (K.written sink.old) (memory_of runtime.old) (D.medium disk.old)
-        → HearsOne D.told (rules_of migrations.now) (answers_of migrations.now) (D.medium start) before heard whole
-        (K.written sink.new) (memory_of runtime.new) (D.medium disk.new)) }
+        → Hearing (outset D.Disk (converters_of migrations.now) start before) heard (K.written sink.old)
+        (memory_of runtime.old) (D.medium disk.old)
+        → HearsOne (outset D.Disk (converters_of migrations.now) start before) heard whole (K.written sink.new)
+        (memory_of runtime.new) (D.medium disk.new)) }
     ensures ends { IfErr result (λ ending. AppLaws → (start : D) (before : Option (List ℕ))
         (heard : List Heard) (others : List (List ℕ)) (whole : List ℕ)
         → text.now ≡ take 262145 whole → number ≡ next_line_number (length heard)
-        → Hearing D.told (rules_of migrations.now) (answers_of migrations.now) (D.medium start) before heard
-        (K.written sink.old) (memory_of runtime.old) (D.medium disk.old)
-        → Service D.told (rules_of migrations.now) (answers_of migrations.now) (ending_of ending) (D.medium start)
-        before (lines_in heard ++ whole ∷ others) (K.written sink.new) (D.medium disk.new)) }
+        → Hearing (outset D.Disk (converters_of migrations.now) start before) heard (K.written sink.old)
+        (memory_of runtime.old) (D.medium disk.old)
+        → Service (outset D.Disk (converters_of migrations.now) start before) (ending_of ending)
+        (lines_in heard ++ whole ∷ others) (K.written sink.new) (D.medium disk.new)) }
     ensures memory { OnOk result (IsRuntime D.told (D.medium disk.new) runtime.new) }
     ensures blames { Blames (K.faults sink.old) (K.faults sink.new) result }
     ensures time { Elapses (D.medium disk.old) (D.medium disk.new) }

@@ -1,8 +1,9 @@
 -- The line is the one that is kept, and its number the next.
 use Rattle.std.proofs.Common.{ℕ, List, ◌∙◌, subst, arith}
-use Rattle.migrate_fns.specs.Stored.{answers_of, rules_of}
+use Rattle.run_model.specs.Edges.{converters_of}
 use Rattle.per_runtime.specs.Memories.{memory_of}
 use Rattle.per_run.specs.Needs.{HandlingMayStarve}
+use Rattle.per_run.specs.Steps.{runtime_at}
 use Rattle.per_run.proofs.reader.handle_line.Goals as goal
 
 pub returns-in-Ok-clause-goes_on : goal.returns-in-Ok-clause-goes_on
@@ -16,7 +17,7 @@ returns-in-Err-clause-ends g c = λ laws start before lines others text front nu
 
 pub returns-in-Err-clause-needs : goal.returns-in-Err-clause-needs
 returns-in-Err-clause-needs g c = λ told starved.
-    subst (λ (t : List ℕ). HandlingMayStarve g.D.Disk.told (rules_of c.args.migrations.now)
-    (answers_of c.args.migrations.now) t (memory_of c.args.reader.now.runtime) (memory_of c.handle_text.new.runtime)
-    (g.D.Disk.medium c.args.disk.now) (g.D.Disk.medium c.handle_text.new.disk))
+    subst (λ (t : List ℕ). HandlingMayStarve g.D.Disk.told (converters_of c.args.migrations.now) t
+    (runtime_at (memory_of c.args.reader.now.runtime) (g.D.Disk.medium c.args.disk.now))
+    (runtime_at (memory_of c.handle_text.new.runtime) (g.D.Disk.medium c.handle_text.new.disk)))
     c.as_slice.ensures.value (c.in-Err.ensures.needs told starved)

@@ -12,9 +12,11 @@ use Rattle.command_text.specs.declared.lines.Line.TheVariants as line
 use Rattle.run_model.specs.Runtimes.{Memory, world_of}
 use Rattle.per_runtime.specs.Needs.{CommandMayStarve}
 use Rattle.per_run.specs.Needs.{HandlingMayStarve, ReplyMayStarve}
+use Rattle.per_run.specs.Steps.{runtime_at}
 use Rattle.per_run.proofs.Gives.{front_bad, front_says}
 use Rattle.per_run.proofs.Courses.{course_end, course_memory, course_refused, handled_nothing}
 use Rattle.per_run.proofs.reader.handle_text.Goals as goal
+use Rattle.per_run.proofs.Settings.{converting}
 
 -- the whole line says what its prefix does
 says : (text whole : List ℕ) (found said : Line) → found ≡ said → text ≡ take 262145 whole → IsLine text found
@@ -26,8 +28,8 @@ says text whole found said is front spelled =
 starves : (told : Bool) (rules : List Rule) (answers : Answers) (text : List ℕ) (before after : Memory)
     (old new : Medium) (event : Event) → IsLine text (line.Event event)
     → CommandMayStarve (world_of old.image before None) event
-    ⊎ ReplyMayStarve told rules answers text before after old new
-    → HandlingMayStarve told rules answers text before after old new
+    ⊎ ReplyMayStarve told (converting rules answers) text (runtime_at before old) (runtime_at after new)
+    → HandlingMayStarve told (converting rules answers) text (runtime_at before old) (runtime_at after new)
 starves told rules answers text before after old new event spelled (inl needs) = inl (inr (event, spelled, needs))
 starves told rules answers text before after old new event spelled (inr made) = inr (inl made)
 
