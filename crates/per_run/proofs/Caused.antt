@@ -445,7 +445,16 @@ recover_safe value = go (application_of value) refl
 
 modes_safe : (formats : Bool) (number : Option (List ℕ)) (audits : Bool) (exports imports : Option (List ℕ))
     (serves : Bool) (lists recovers : Option (List ℕ))
-    → AreSafe (modes formats number audits exports imports serves lists recovers)
+    → AreSafe (modes (record {
+      formats = formats;
+      generates = number;
+      audits = audits;
+      exports = exports;
+      imports = imports;
+      serves = serves;
+      lists = lists;
+      recovers = recovers;
+    }))
 modes_safe formats number audits exports imports serves lists recovers =
     both_safe ((((((flagged Format formats ++ valued generate_of number) ++ flagged Audit audits)
     ++ valued export_job exports) ++ valued import_of imports) ++ flagged Serve serves) ++ valued list_of lists)

@@ -184,6 +184,24 @@ job_refused result said same is reads refused = is ∙ subst (λ (r : Result Job
     reads
 
 pub modes_as : {f g a b s t : Bool} {n m x y i j k l r q : Option (List ℕ)} → f ≡ g → n ≡ m → a ≡ b → x ≡ y → i ≡ j
-    → s ≡ t → k ≡ l → r ≡ q → only_mode (modes f n a x i s k r) ≡ only_mode (modes g m b y j t l q)
+    → s ≡ t → k ≡ l → r ≡ q → only_mode (modes (record {
+      formats = f;
+      generates = n;
+      audits = a;
+      exports = x;
+      imports = i;
+      serves = s;
+      lists = k;
+      recovers = r;
+    })) ≡ only_mode (modes (record {
+      formats = g;
+      generates = m;
+      audits = b;
+      exports = y;
+      imports = j;
+      serves = t;
+      lists = l;
+      recovers = q;
+    }))
 modes_as formats number audits exports imports serves lists recovers =
     rw (formats, number, audits, exports, imports, serves, lists, recovers) refl

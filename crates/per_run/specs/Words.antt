@@ -97,13 +97,22 @@ list_of value = if bytes_eq value (codes "lines") then Some (Listing form.Lines)
 abbrev pub recover_of : List ℕ → Option JobKind
 recover_of value = option_map RecoverRoot (application_of value)
 
+-- what is set of the options of the modes, and the values
+pub record Modes : Type 0 where
+  pub formats : Bool
+  pub generates : Option (List ℕ)
+  pub audits : Bool
+  pub exports : Option (List ℕ)
+  pub imports : Option (List ℕ)
+  pub serves : Bool
+  pub lists : Option (List ℕ)
+  pub recovers : Option (List ℕ)
+
 -- the modes that are named
-abbrev pub modes : (formats : Bool) → (generates : Option (List ℕ)) → (audits : Bool)
-    → (exports imports : Option (List ℕ)) → (serves : Bool) → (lists recovers : Option (List ℕ))
-    → List (Option JobKind)
-modes formats generates audits exports imports serves lists recovers = flagged Format formats
-    ++ valued generate_of generates ++ flagged Audit audits ++ valued export_job exports ++ valued import_of imports
-    ++ flagged Serve serves ++ valued list_of lists ++ valued recover_of recovers
+abbrev pub modes : Modes → List (Option JobKind)
+modes given = flagged Format given.formats ++ valued generate_of given.generates ++ flagged Audit given.audits
+    ++ valued export_job given.exports ++ valued import_of given.imports ++ flagged Serve given.serves
+    ++ valued list_of given.lists ++ valued recover_of given.recovers
 
 -- at most one is named, and where none is the lines of the input are handled
 abbrev pub only_mode : List (Option JobKind) → Option JobKind
@@ -113,9 +122,16 @@ only_mode (mode ∷ other ∷ others) = None
 
 -- the kind of job that the options ask for, where they ask for one alone
 abbrev pub job_kind_in : List Row → Option JobKind
-job_kind_in rows = only_mode (modes (is_set (first_of (codes "format") rows)) (first_of (codes "generate") rows)
-    (is_set (first_of (codes "audit") rows)) (first_of (codes "export") rows) (first_of (codes "import") rows)
-    (is_set (first_of (codes "serve") rows)) (first_of (codes "list") rows) (first_of (codes "recover-root") rows))
+job_kind_in rows = only_mode (modes (record {
+  formats = is_set (first_of (codes "format") rows);
+  generates = first_of (codes "generate") rows;
+  audits = is_set (first_of (codes "audit") rows);
+  exports = first_of (codes "export") rows;
+  imports = first_of (codes "import") rows;
+  serves = is_set (first_of (codes "serve") rows);
+  lists = first_of (codes "list") rows;
+  recovers = first_of (codes "recover-root") rows;
+}))
 
 -- the number of blocks of the flash, where one is named
 abbrev pub flash_of : Option (List ℕ) → Option (Option ℕ)
