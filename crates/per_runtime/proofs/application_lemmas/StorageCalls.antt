@@ -26,8 +26,8 @@ use Rattle.per_runtime.specs.declared.application.running.Running.{Running}
 use Rattle.per_runtime.specs.declared.application.running.Stage.TheVariants.{AtRest}
 use Rattle.per_runtime.specs.application.Answers.{HasRow, IsAnswered, MayLead}
 use Rattle.per_runtime.specs.application.Promises.{Promises}
-use Rattle.per_runtime.proofs.storage_lemmas.Handled.{answered_of, cause_of, failed_of, memory_of, passes_of, quiet_of}
-use Rattle.per_runtime.proofs.storage_lemmas.Handled.{stopped_of, text_of, unfailed_of, unwritten_of}
+use Rattle.per_runtime.proofs.storage_lemmas.Handled.{answered_of, cause_of, failed_of, fed_of, memory_of, passes_of}
+use Rattle.per_runtime.proofs.storage_lemmas.Handled.{quiet_of, stopped_of, text_of, unfailed_of, unwritten_of}
 use Rattle.per_runtime.proofs.application_lemmas.LeadOn.{still}
 
 -- a call that names a storage begins no update

@@ -26,7 +26,7 @@ returns-in_err-open_root g c =
           (said.failed c.in_err-open_root.field-0.0 refl) said.on_the_way
           (λ is. said.cause (ap (λ (s : Stop). Err s) is));
       needs = λ tells bad. inl (ap is_to_open c.requires.marked);
-      fed = said.fed;
+      fed = λ is. said.fed cc;
       idle = λ tells. none_idle c.applications_stand.ensures.mend g.D.Disk.told (rules_of c.args.migrations.now)
           (answers_of c.args.migrations.now) c.args.now (asked_call c.args.asked.now) a c.open_root.new.self old mid
           c.requires.marked said.app closed _;
