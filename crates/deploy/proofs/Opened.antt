@@ -105,6 +105,10 @@ says_some : (g : ℕ) (r : text.Root) → nothing ≡ says_by g (Some r) → ⊥
 says_some g text.absent e = absurd cc
 says_some g (text.installed bank active previous) e = absurd cc
 
+-- where a root was found, it is not said that there is none
+pub found_none : (said : Says) (g : ℕ) (r : text.Root) → said ≡ says_by g (Some r) → said ≡ nothing → ⊥
+found_none said g r found none = says_some g r (sym none ∙ found)
+
 pub not_bad : (root : Root) (g : ℕ) (r : text.Root) → root_says root ≡ says_by g (Some r) → IsBad (Ok root) → ⊥
 not_bad Bad g r says is = says_some g r says
 not_bad (Absent cell) g r says is = absurd cc

@@ -14,7 +14,7 @@ ghost use Rattle.guarded_cell.specs.Slots.{IsSlotsOf};
 ghost use Rattle.guarded_cell.specs.Stops.{PutStops};
 ghost use Rattle.root_text.specs.RootText.{IsRoot, root_text};
 ghost use Rattle.root_text.specs.Views.{root_said};
-ghost use Rattle.deploy_laws.specs.Apps.{IsCleanApp, app_at, says_at, says_by};
+ghost use Rattle.deploy_laws.specs.Apps.{IsCleanApp, app_at, nothing, says_at, says_by};
 ghost use Rattle.deploy_laws.specs.Places.{root_place};
 ghost use Rattle.deploy_rows.specs.Costs.{greatest_cost, kept_manifests, manifests_at, root_len};
 ghost use Rattle.deploy_rows.specs.Rows.{reopened};
@@ -67,6 +67,11 @@ pub fn open_root<D: Disk>(alloc: Global, disk: &mut D, app: u32) -> Result<Root,
     // Where every copy holds one text and no other is held, nothing is written, however it ends.
     ensures already { IsTrue D.told → (generation : ℕ) (text : List ℕ)
         → IsAlone (D.medium disk.old).image (root_place app) generation text
+        → ((D.medium disk.new).image ≡ (D.medium disk.old).image)
+        × ((D.medium disk.new).written ≡ (D.medium disk.old).written) }
+
+    // Nor where the root is bad: what single copies hold stays for who recovers it.
+    ensures bad { IsTrue D.told → says_at (D.medium disk.old).image app ≡ nothing
         → ((D.medium disk.new).image ≡ (D.medium disk.old).image)
         × ((D.medium disk.new).written ≡ (D.medium disk.old).written) }
 

@@ -2,6 +2,7 @@ use Rattle.std.proofs.Common.{sym, ◌∙◌, subst, arith}
 use Rattle.disk_model.specs.Image.{Image}
 use Rattle.guarded_cell.specs.Seens.{IsSeenOn}
 use Rattle.guarded_cell.specs.Slots.{IsSlotsOf}
+use Rattle.deploy_laws.specs.Apps.{says_at}
 use Rattle.deploy_laws.specs.Places.{root_place}
 use Rattle.root_text.specs.Views.{root_said}
 use Rattle.deploy.specs.Clauses.{IsNoRootSlot}
@@ -10,7 +11,7 @@ use Rattle.deploy.proofs.Found.{found_says, found_stands, is_first, is_marked, i
 use Rattle.deploy.proofs.Found.{texts_at}
 use Rattle.deploy.proofs.Manifests.{bad_keeps, found_keeps, once_written}
 use Rattle.deploy.proofs.Opened.{bad_at, bad_reopened, brought_app, brought_clean, brought_leaves, brought_stands}
-use Rattle.deploy.proofs.Opened.{look_leaves, look_stands, not_bad, still_clean}
+use Rattle.deploy.proofs.Opened.{found_none, look_leaves, look_stands, not_bad, still_clean}
 use Rattle.deploy.proofs.RootLens.{same_most, then_most}
 use Rattle.deploy.proofs.opening.open_root.Goals as goal
 
@@ -30,11 +31,17 @@ pub returns-in_err-standing-clause-already : goal.returns-in_err-standing-clause
 returns-in_err-standing-clause-already g c = λ tells n t alone.
     (c.find_standing.ensures.image, c.find_standing.ensures.written)
 
+pub returns-in_err-standing-clause-bad : goal.returns-in_err-standing-clause-bad
+returns-in_err-standing-clause-bad g c = λ tells none. (c.find_standing.ensures.image, c.find_standing.ensures.written)
+
 -- ---- no root stands
 
 pub returns-in_default-clause-already : goal.returns-in_default-clause-already
 returns-in_default-clause-already g c = λ tells n t alone.
     (c.find_standing.ensures.image, c.find_standing.ensures.written)
+
+pub returns-in_default-clause-bad : goal.returns-in_default-clause-bad
+returns-in_default-clause-bad g c = λ tells none. (c.find_standing.ensures.image, c.find_standing.ensures.written)
 
 pub returns-in_default-clause-outside : goal.returns-in_default-clause-outside
 returns-in_default-clause-outside g c = look_leaves g.D.Disk.told (IsNoRootSlot c.args.app)
@@ -110,6 +117,15 @@ returns-in_err-root-clause-already g c = λ tells n t alone.
     c.find_standing.ensures.image c.find_standing.ensures.written (c.bring_to.ensures.already tells)
     (found_alone c.held_is_lawful.ensures.alone old.image c.args.app n t s first alone)
 
+pub returns-in_err-root-clause-bad : goal.returns-in_err-root-clause-bad
+returns-in_err-root-clause-bad g c = λ tells none.
+    let old = g.D.Disk.medium c.args.disk.now in
+    let s = c.in-Some.standing in
+    let first = is_first (texts_at old.image c.args.app) c.in_ok-standing.field-0 s c.in-Some.is
+    (c.in_ok-standing.ensures.among tells) in
+    absurd (found_none (says_at old.image c.args.app) s.seen.generation (root_said s.says)
+    (found_says c.held_is_lawful.ensures.among old.image c.args.app s first) none)
+
 pub returns-in_err-root-clause-outside : goal.returns-in_err-root-clause-outside
 returns-in_err-root-clause-outside g c = brought_leaves c.args.app c.requires g.D.Disk.told c.in-Some.standing.seen
     (g.D.Disk.medium c.args.disk.now) (g.D.Disk.medium c.find_standing.new.disk) (g.D.Disk.medium c.bring_to.new.disk)
@@ -139,6 +155,15 @@ returns-clause-already g c = λ tells n t alone.
     s.seen.generation s.seen.text
     c.find_standing.ensures.image c.find_standing.ensures.written (c.bring_to.ensures.already tells)
     (found_alone c.held_is_lawful.ensures.alone old.image c.args.app n t s first alone)
+
+pub returns-clause-bad : goal.returns-clause-bad
+returns-clause-bad g c = λ tells none.
+    let old = g.D.Disk.medium c.args.disk.now in
+    let s = c.in-Some.standing in
+    let first = is_first (texts_at old.image c.args.app) c.in_ok-standing.field-0 s c.in-Some.is
+    (c.in_ok-standing.ensures.among tells) in
+    absurd (found_none (says_at old.image c.args.app) s.seen.generation (root_said s.says)
+    (found_says c.held_is_lawful.ensures.among old.image c.args.app s first) none)
 
 pub returns-clause-outside : goal.returns-clause-outside
 returns-clause-outside g c = brought_leaves c.args.app c.requires g.D.Disk.told c.in-Some.standing.seen
