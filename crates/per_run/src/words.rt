@@ -176,14 +176,15 @@ fn only_mode(
     recovers: Option<&str>,
 ) -> Result<JobKind, WordsError>
     ensures { ReadsWord result (only_mode (modes (record {
-        formats = formats;
-        generates = option_map (λ text. text.now) generates.entry;
-        audits = audits;
-        exports = option_map (λ text. text.now) exports.entry;
-        imports = option_map (λ text. text.now) imports.entry;
-        serves = serves;
-        lists = option_map (λ text. text.now) lists.entry;
-        recovers = option_map (λ text. text.now) recovers.entry }))) }
+      formats = formats;
+      generates = option_map (λ text. text.now) generates.entry;
+      audits = audits;
+      exports = option_map (λ text. text.now) exports.entry;
+      imports = option_map (λ text. text.now) imports.entry;
+      serves = serves;
+      lists = option_map (λ text. text.now) lists.entry;
+      recovers = option_map (λ text. text.now) recovers.entry;
+    }))) }
 {
     match (
         formats, generates, audits, exports, imports, serves, lists, recovers,
