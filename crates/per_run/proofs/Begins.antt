@@ -52,7 +52,8 @@ unbegun told m lawful = record {
   at_exit = inl (reads_none lawful);
   roots = λ f is. refl;
   written = omega arith;
-  already = λ are. refl;
+  left = λ b lt needs f of. refl;
+  already = λ all. refl;
 }
 
 -- nothing was taken and nothing written

@@ -20,7 +20,7 @@ use Rattle.run_model.specs.Runs.{DiskSide, Handling, IsSettled, Progress, Reach,
 use Rattle.run_model.specs.Runtimes.{IsNoRoot, Memory}
 use Rattle.run_model.specs.Turns.{AreBlamed, DiskBytes, Follow, Turn, bytes_now, replies_of, worlds_of}
 use Rattle.run_model.specs.Worlds.{Application, World, after_start, all_resting, formatted, resting, world_at}
-use Rattle.run_model.specs.Writes.{AreWholeRoots}
+use Rattle.run_model.specs.Writes.{AllNeedNothing, AreRootsAlone}
 use Rattle.per_run.specs.declared.tally.Tally.{Tally}
 use Rattle.per_run.specs.Jobs.{BeginWith, FailsAtThree, Formats, Generates, IsLeftBy, WritesOutput, outputs}
 use Rattle.per_run.specs.Jobs.{summary}
@@ -62,13 +62,14 @@ formats_short old new roots written = record { roots = roots; written = omega (a
 
 -- one that did, and the start after it, which writes nothing
 pub formats_on : (old middle : Medium) (new : DiskBytes) → Spares IsNoRoot old.image middle.image
-    → middle.written ≤ old.written + 8 * format_cost → AreWholeRoots middle.image
-    → Spares IsNoRoot middle.image new.image → (AreWholeRoots middle.image → new ≡ bytes_now middle)
+    → middle.written ≤ old.written + 8 * format_cost → AreRootsAlone middle.image
+    → Spares IsNoRoot middle.image new.image → (AllNeedNothing middle.image → new ≡ bytes_now middle)
     → FormatsWithin (bytes_now old) new
-formats_on old middle new roots written whole started already = record {
+formats_on old middle new roots written alone started already = record {
   roots = spares_on roots started;
   written =
-      let same : new.written ≡ middle.written = ap (λ (b : DiskBytes). b.written) (already whole) in
+      let same : new.written ≡ middle.written = ap (λ (b : DiskBytes). b.written)
+      (already (λ app lt. inl (alone app lt))) in
       omega (arith, written, same);
 }
 
@@ -211,7 +212,7 @@ generates_short told rules answers n now memory old middle begun new b course = 
       (side tells).follow;
   bounded = λ tells. record {
     begun = (side tells).begun;
-    starts = formats_on old middle (side tells).begun (b.roots tells) b.written (b.whole tells)
+    starts = formats_on old middle (side tells).begun (b.roots tells) b.written (b.alone tells)
         (side tells).starts.roots (side tells).starts.already;
     bounded = subst (λ (w : World). AreBounded rules answers w (side tells).begun course.turns) (here tells)
         (side tells).bounded;
@@ -277,7 +278,7 @@ generates_all told rules answers n status before now memory after tally old midd
       bounded = λ tells.
           let g : IsGoing rules answers middle counted.turns after new = counted.goes.disk tells in record {
             begun = g.2.begun;
-            starts = formats_on old middle g.2.begun (b.roots tells) b.written (b.whole tells) g.2.starts.roots
+            starts = formats_on old middle g.2.begun (b.roots tells) b.written (b.alone tells) g.2.starts.roots
                 g.2.starts.already;
             bounded = subst (λ (w : World). AreBounded rules answers w g.2.begun counted.turns) (here tells) g.2.bounded;
             held = λ done. g.2.held;

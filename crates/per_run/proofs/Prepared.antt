@@ -22,7 +22,7 @@ use Rattle.run_model.specs.Runtimes.{Memory, StartKeeps, Starts}
 use Rattle.run_model.specs.Turns.{bytes_now}
 use Rattle.run_model.specs.Worlds.{after_start, disks, world_at}
 use Rattle.run_model.specs.WriteLaws.{unchanged}
-use Rattle.run_model.specs.Writes.{AreWholeRoots}
+use Rattle.run_model.specs.Writes.{AllNeedNothing, NeedsNothing}
 use Rattle.per_runtime.specs.Memories.{memory_of}
 use Rattle.per_runtime.specs.declared.runtime.Runtime.{Runtime}
 use Rattle.per_run.specs.declared.endings.Ending.{Ending as Way}
@@ -92,7 +92,9 @@ keeps_on {a} {b} {c} first reads later keeps = record {
       let cost : c.written ≤ b.written + roots_cost a.image 8 =
       subst (λ (i : Image). c.written ≤ b.written + roots_cost i 8) reads.image keeps.written in
       omega (arith, same, cost);
-  already = λ are. keeps.already (subst (λ (i : Image). AreWholeRoots i) (sym reads.image) are)
+  left = λ b lt needs f of. keeps.left b lt (subst (λ (i : Image). NeedsNothing i b) (sym reads.image) needs) f of
+      ∙ ap (λ (i : Image). i f) reads.image;
+  already = λ all. keeps.already (subst (λ (i : Image). AllNeedNothing i) (sym reads.image) all)
       ∙ unchanged (bytes_now a) (bytes_now b) reads.image reads.written;
 }
 
@@ -122,7 +124,7 @@ readied_first told medium (Ok x) old mid new blank first reads same begun = reco
     passes = begun.1.passes ∙ same;
     roots = λ tells file is. begun.1.roots tells file is ∙ ap (λ (i : Image). i file) reads.image;
     written = let formats = begun.1.written in let nothing = reads.written in omega (arith, formats, nothing);
-    whole = begun.1.whole;
+    alone = begun.1.alone;
     time = elapses_on first begun.1.formats;
   });
   passes = begun.1.started;

@@ -23,7 +23,7 @@ use Rattle.run_model.specs.Runs.{DiskSide, IsSettled, without_sink}
 use Rattle.run_model.specs.Runtimes.{IsNoRoot}
 use Rattle.run_model.specs.Turns.{DiskBytes, Turn, CountsFailures, bytes_now, worlds_of}
 use Rattle.run_model.specs.Worlds.{after_start, formatted, world_at}
-use Rattle.run_model.specs.Writes.{AreWholeRoots}
+use Rattle.run_model.specs.Writes.{AreRootsAlone}
 
 -- ---- the lines that were handled
 
@@ -176,7 +176,7 @@ pub record FormatsWithin (old new : DiskBytes) : Type 0 where
   pub written : new.written ≤ old.written + 8 * format_cost
 
 -- eight applications of which nothing is installed, in clean places, and nothing pending; only slots of roots changed,
--- and no more was written than the formatting of eight roots costs; and no root lacks anything, so that the start then
+-- and no more was written than the formatting of eight roots costs; and each root is held alone, so that the start then
 -- writes nothing
 pub record IsFreshlyFormatted (told : Bool) (old start : Medium) : Type 0 where
   pub world : IsTrue told → world_at start.image ≡ formatted
@@ -185,7 +185,7 @@ pub record IsFreshlyFormatted (told : Bool) (old start : Medium) : Type 0 where
   pub passes : start.faults ≡ old.faults
   pub roots : IsTrue told → Spares IsNoRoot old.image start.image
   pub written : start.written ≤ old.written + 8 * format_cost
-  pub whole : IsTrue told → AreWholeRoots start.image
+  pub alone : IsTrue told → AreRootsAlone start.image
   pub time : Elapses old start
 
 -- a run that stays starts on the disk as it was; or on one that it formatted, since it was empty

@@ -27,7 +27,7 @@ use Rattle.run_model.specs.Runs.{DiskSide}
 use Rattle.run_model.specs.Runtimes.{IsDoubt, IsNoRoot, Memory, Starts, Stepped, Stopped}
 use Rattle.run_model.specs.Turns.{Turn, events_of, replies_of, replies_text, IsBlamed, AreBlamed, CountsFailures}
 use Rattle.run_model.specs.Worlds.{Doubt, world_at, after_start, formatted}
-use Rattle.run_model.specs.Writes.{AreWholeRoots}
+use Rattle.run_model.specs.Writes.{AreRootsAlone}
 use Rattle.per_run.specs.declared.answering.LineOutcome.{LineOutcome}
 use Rattle.per_run.specs.declared.answering.LineOutcome.TheVariants as outcome
 use Rattle.per_run.specs.declared.endings.Ending.{Ending}
@@ -262,12 +262,12 @@ abbrev pub RunsShort : Outset → (all : List (List ℕ)) → Medium → Type 0
 RunsShort from all medium = Course from endings.memory all None medium
 
 -- A runtime that started on a disk which was formatted before; no more was written until then than the formatting of
--- eight roots costs, and no root lacks anything, so that the start writes nothing.
+-- eight roots costs, and each root is held alone, so that the start writes nothing.
 pub record IsServeBegun (told : Bool) (memory : Memory) (old middle new : Medium) : Type 0 where
   pub passes : middle.faults ≡ old.faults
   pub roots : IsTrue told → Spares IsNoRoot old.image middle.image
   pub written : middle.written ≤ old.written + 8 * format_cost
-  pub whole : IsTrue told → AreWholeRoots middle.image
+  pub alone : IsTrue told → AreRootsAlone middle.image
   pub started : new.faults ≡ middle.faults
   pub world : IsTrue told → world_at middle.image ≡ formatted
   pub clean : IsTrue told → (app : ℕ) → app < 8 → IsCleanApp app middle.image

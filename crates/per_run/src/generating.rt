@@ -163,7 +163,8 @@ fn handle_each<D: Disk>(
         → Counted (outset D.Disk (converters_of migrations.now) start None) before (memory_of batch.old.runtime)
         batch.old.tally (D.medium disk.old)
         → Counted (outset D.Disk (converters_of migrations.now) start None)
-        (before ++ map (λ line. line.now) lines.now) (memory_of batch.new.runtime) batch.new.tally (D.medium disk.new)) }
+        (before ++ map (λ line. line.now) lines.now) (memory_of batch.new.runtime) batch.new.tally
+        (D.medium disk.new)) }
     // Where memory ran out, it did so between commands or in one, of any lines that begin with those before and these.
     ensures short { IsErr result → AppLaws → (start : D) (before all : List (List ℕ))
         → length (before ++ map (λ line. line.now) lines.now) < 2 ^ 32

@@ -22,11 +22,11 @@ use Rattle.run_model.specs.Costs.{roots_cost}
 use Rattle.run_model.specs.Runtimes.{StartKeeps, Starts, with_disk}
 use Rattle.run_model.specs.Runtimes as memory
 use Rattle.run_model.specs.Starting.{OpenedUpTo, keeps_worlds, one_more_cost, open_next, open_none, opened_keeps}
-use Rattle.run_model.specs.Starting.{some_cost, still_whole, which}
-use Rattle.run_model.specs.Turns.{bytes_now}
+use Rattle.run_model.specs.Starting.{none_written, one_left, some_cost, which}
+use Rattle.run_model.specs.Turns.{DiskBytes, bytes_now}
 use Rattle.run_model.specs.Worlds.{Application, all_resting, world_at}
 use Rattle.run_model.specs.WriteLaws.{unchanged}
-use Rattle.run_model.specs.Writes.{IsWholeRoot}
+use Rattle.run_model.specs.Writes.{NeedsNothing}
 use Rattle.per_runtime.specs.storages.Answers.{CallsTo}
 use Rattle.per_runtime.specs.declared.application.running.Running.{Running}
 use Rattle.per_runtime.specs.application.Running.{IsRunning, running_in}
@@ -62,7 +62,8 @@ once_at k a now new is once = subst (λ (n : ℕ). new.written ≤ now.written +
 pub unsynced_keeps : (old new : Medium) → OnlyReads old new → StartKeeps old new
 unsynced_keeps old new reads = keeps_worlds old new (λ b lt clean c s. inl (reads.during c s)) (inl reads)
     (λ f is. ap (λ (i : Image). i f) reads.image) (unsynced_cost old new reads)
-    (λ are. unchanged (bytes_now old) (bytes_now new) reads.image reads.written)
+    (λ b lt needs file of. ap (λ (i : Image). i file) reads.image)
+    (λ all. unchanged (bytes_now old) (bytes_now new) reads.image reads.written)
 
 -- what any opening promises, however it ends
 abbrev pub IsOnTheWay : ℕ → (old new : Medium) → Type 0
@@ -75,12 +76,12 @@ pub slots_at : (k a : ℕ) (old new : Medium) → k ≡ a → Spares (IsNoSlot (
     → Spares (IsNoSlot (root_place a)) old.image new.image
 slots_at k a old new is slots = subst (λ (n : ℕ). Spares (IsNoSlot (root_place n)) old.image new.image) is slots
 
--- an opening of a root that lacks nothing wrote nothing
-abbrev pub IsWholeAlready : ℕ → (old new : Medium) → Type 0
-IsWholeAlready a old new = IsWholeRoot old.image a → bytes_now new ≡ bytes_now old
+-- an opening of a root that needed nothing wrote nothing
+abbrev pub NeededNothing : ℕ → (old new : Medium) → Type 0
+NeededNothing a old new = NeedsNothing old.image a → bytes_now new ≡ bytes_now old
 
-pub already_at : (k a : ℕ) (old new : Medium) → k ≡ a → IsWholeAlready k old new → IsWholeAlready a old new
-already_at k a old new is already = subst (λ (n : ℕ). IsWholeAlready n old new) is already
+pub already_at : (k a : ℕ) (old new : Medium) → k ≡ a → NeededNothing k old new → NeededNothing a old new
+already_at k a old new is already = subst (λ (n : ℕ). NeededNothing n old new) is already
 
 pub root_at : (k a : ℕ) (old new : Medium) → k ≡ a → OpensRoot k old new → OpensRoot a old new
 root_at k a old new is opens = subst (λ (n : ℕ). OpensRoot n old new) is opens
@@ -88,7 +89,7 @@ root_at k a old new is opens = subst (λ (n : ℕ). OpensRoot n old new) is open
 -- the opening of one root failed, or memory ran out in it
 pub stops_at : AppLaws → (told : Bool) (a : ℕ) (old now new : Medium) → a < 8 → IsLawful told new → OpenedUpTo a old now
     → Elapses now new → IsOnTheWay a now new → Spares (IsNoSlot (root_place a)) now.image new.image
-    → new.written ≤ now.written + root_cost (manifests_at now.image a) → IsWholeAlready a now new → StartKeeps old new
+    → new.written ≤ now.written + root_cost (manifests_at now.image a) → NeededNothing a now new → StartKeeps old new
 stops_at laws told a old now new lta lawful o time way slots cost already = keeps_worlds old new
     (λ b lt clean c s. ⊎_elim
     (λ was. o.moments b lt clean c was)
@@ -98,7 +99,9 @@ stops_at laws told a old now new lta lawful o time way slots cost already = keep
     (λ f is. slots f (is a lta) ∙ o.roots f is)
     (some_cost old.image old.written new.written (a + 1) (omega (arith, lta))
     (one_more_cost old.image now.image old.written now.written new.written a (o.kept a (le_refl a) lta) o.written cost))
-    (still_whole a old now new lta o.already already)
+    (one_left a old.image now.image new.image lta (o.closed a (le_refl a) lta) o.left slots
+    (λ needs. ap (λ (b : DiskBytes). b.image) (already needs)))
+    (none_written a old now new lta o.already already)
   where
     calls : CallsTo a (reopened (app_at now.image a)) now new
     calls = way (reopened (app_at now.image a)) (is_reopened (app_at now.image a))

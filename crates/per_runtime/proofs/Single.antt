@@ -33,7 +33,7 @@ use Rattle.run_model.specs.Steps.{root_opened, uses_device}
 use Rattle.run_model.specs.Turns.{bytes_now}
 use Rattle.run_model.specs.WriteLaws.{call_behind, call_unbegun, opens_alone, opens_nothing}
 use Rattle.run_model.specs.Worlds.{Application, Stage, Sessions, at_rest, is_to_open, none_open, to_open, update_in}
-use Rattle.run_model.specs.Writes.{IsCallWithin, IsWholeRoot}
+use Rattle.run_model.specs.Writes.{IsCallWithin, NeedsNothing}
 use Rattle.per_runtime.specs.storages.Answers.{CallsTo}
 use Rattle.per_runtime.specs.application.Answers as calls
 use Rattle.per_runtime.specs.application.Answers.{HasRow}
@@ -221,7 +221,7 @@ whole_calls mend app next old mid new opens time later calls = record {
 pub opened_alone : (told : Bool) (rules : List Rule) (answers : Answers) (now : ℕ) (c : Call) (a : Running)
     (old mid : Medium) → stage_in a.stage ≡ to_open → Spares (IsNoSlot (root_place a.app)) old.image mid.image
     → mid.written ≤ old.written + root_cost (manifests_at old.image a.app)
-    → (IsWholeRoot old.image a.app → bytes_now mid ≡ bytes_now old)
+    → (NeedsNothing old.image a.app → bytes_now mid ≡ bytes_now old)
     → IsCallWithin rules answers a.app now (application old.image a) c (bytes_now old) (bytes_now mid)
 opened_alone told rules answers now c a old mid marked slots cost already = call_unbegun rules answers a.app now
     (application old.image a) c (bytes_now old) (bytes_now mid) marked slots cost already

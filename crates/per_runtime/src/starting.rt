@@ -30,8 +30,8 @@ pub fn start<D: Disk>(alloc: Global, disk: &mut D) -> Result<Runtime, Stop>
     ensures starts { IsTrue D.told → IfOk result (λ r. Starts (memory_of r) (D.medium disk.old) (D.medium disk.new)) }
     ensures fresh { IfOk result (λ r. memory_of r ≡ fresh) }
 
-    // However it ends, at each moment each application stands between what it was and itself with its root mended, and
-    // where no root lacks anything, nothing is written.
+    // However it ends, at each moment each application stands between what it was and itself with its root mended; a
+    // root that is bad or held alone keeps its slots, and where all are, nothing is written.
     ensures stopped { IsTrue D.told → StartKeeps (D.medium disk.old) (D.medium disk.new) }
     // No more is written than the eight longest roots cost.
     ensures written { (D.medium disk.new).written ≤ (D.medium disk.old).written + 8 * greatest_cost }

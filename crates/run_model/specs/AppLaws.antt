@@ -13,7 +13,7 @@ use Rattle.deploy_rows.specs.Laws.{ManifestsFrameLaw}
 use Rattle.deploy_rows.specs.Rows.{reopened}
 use Rattle.run_model.specs.Turns.{bytes_now}
 use Rattle.run_model.specs.Worlds.{Disks, disk_at}
-use Rattle.run_model.specs.Writes.{IsWholeRoot}
+use Rattle.run_model.specs.Writes.{NeedsNothing}
 
 -- the laws of applications that a run relies on
 pub record AppLaws : Type 0 where
@@ -44,7 +44,7 @@ pub record Calls (a : ℕ) (after : Disks) (old new : Medium) : Type 0 where
 
 -- What the opening of a root promises: the application is the one with its root mended, and at every moment it stands
 -- between what it was and any later state; the root keeps its manifests, and is written once, or not at all where it
--- lacks nothing.
+-- needs nothing.
 pub record OpensRoot (a : ℕ) (old new : Medium) : Type 0 where
   pub app : app_at new.image a ≡ reopened (app_at old.image a)
   pub any_moment : Quiet old → IsCleanApp a old.image → (after : App) → IsLater (app_at old.image a) after
@@ -55,7 +55,7 @@ pub record OpensRoot (a : ℕ) (old new : Medium) : Type 0 where
   pub slots : Spares (IsNoSlot (root_place a)) old.image new.image
   pub manifests : manifests_at new.image a ≡ manifests_at old.image a
   pub written : new.written ≤ old.written + root_cost (manifests_at old.image a)
-  pub already : IsWholeRoot old.image a → bytes_now new ≡ bytes_now old
+  pub already : NeedsNothing old.image a → bytes_now new ≡ bytes_now old
   pub clean : IsCleanApp a old.image → IsCleanApp a new.image
   pub quiet : Quiet new
   pub time : Elapses old new

@@ -8,7 +8,7 @@ use Rattle.run_model.specs.Runtimes.{CostsBy, IsBesideNamed, IsElsewhere, IsNoRo
 use Rattle.run_model.specs.Runtimes.{writes_none}
 use Rattle.run_model.specs.Turns.{DiskBytes, Turn}
 use Rattle.run_model.specs.Worlds.{World}
-use Rattle.run_model.specs.Writes.{AreWholeRoots, IsCommandWithin, OnlyOpens}
+use Rattle.run_model.specs.Writes.{AllNeedNothing, IsCommandWithin, LeavesRoots, OnlyOpens}
 
 -- One command, from the world before it: no file of another application changes, and where it names a storage none
 -- beside those of that storage; where it is one that writes `none`, no byte is written and reads give what they gave; a
@@ -25,12 +25,13 @@ pub record IsBounded (rules : List Rule) (answers : Answers) (w : World) (e : Ev
   pub opens : refused ≡ true → OnlyOpens w e old new
   pub later : old.written ≤ new.written
 
--- the start: only slots of roots change, and no more is written than the eight roots cost, each once; and nothing where
--- no root lacks anything
+-- the start: only slots of roots change, of none that needs nothing, and no more is written than the eight roots cost,
+-- each once; and nothing where none needs anything
 pub record StartsWithin (old new : DiskBytes) : Type 0 where
   pub roots : Spares IsNoRoot old.image new.image
   pub written : new.written ≤ old.written + roots_cost old.image 8
-  pub already : AreWholeRoots old.image → new ≡ old
+  pub left : LeavesRoots old.image new.image
+  pub already : AllNeedNothing old.image → new ≡ old
   pub later : old.written ≤ new.written
 
 -- the commands that were answered, one after another

@@ -463,6 +463,7 @@ starts_going rules answers memory old new time s = record {
   starts = record {
     roots = s.keeps.roots;
     written = s.keeps.written;
+    left = s.keeps.left;
     already = s.keeps.already;
     later = time.written;
   };
@@ -507,6 +508,7 @@ start_disk laws rules answers how before after told old new lawful time open_end
   starts = record {
     roots = keeps.roots;
     written = keeps.written;
+    left = keeps.left;
     already = keeps.already;
     later = time.written;
   };

@@ -34,7 +34,7 @@ use Rattle.run_model.specs.Worlds.{world_at, after_start}
 use Rattle.run_model.specs.Steps.{Step, SyncFails, FailsElsewhere, Leads, calls_device, found_named}
 use Rattle.run_model.specs.Moments.{Between, OrBefore, StepKeeps, StopKeeps}
 use Rattle.run_model.specs.Turns.{IsBlamed, bytes_now}
-use Rattle.run_model.specs.Writes.{AreWholeRoots, IsCommandWithin, OnlyOpens}
+use Rattle.run_model.specs.Writes.{AllNeedNothing, IsCommandWithin, LeavesRoots, OnlyOpens}
 
 -- ---- what is kept in memory
 
@@ -82,11 +82,12 @@ pub record StartKeeps (old new : Medium) : Type 0 where
   -- one that ended before it had synchronised the disk did nothing; after any other nothing from before it is left
   pub at_exit : OnlyReads old new ⊎ ((app : ℕ) → app < 8 → IsCleanApp app old.image → (c : Case) → new.now c
       → Between app (disks (world_at old.image)) (disks (after_start (world_at old.image))) c)
-  -- only slots of roots change, and no more is written than the eight roots cost, each once; and nothing where no root
-  -- lacks anything
+  -- only slots of roots change, of none that needs nothing, and no more is written than the eight roots cost, each
+  -- once; and nothing where none needs anything
   pub roots : Spares IsNoRoot old.image new.image
   pub written : new.written ≤ old.written + roots_cost old.image 8
-  pub already : AreWholeRoots old.image → bytes_now new ≡ bytes_now old
+  pub left : LeavesRoots old.image new.image
+  pub already : AllNeedNothing old.image → bytes_now new ≡ bytes_now old
 
 -- A start that ended well: eight applications in memory, no doubt, the world of the disk with each root mended, nothing
 -- pending, and clean places where they were clean.

@@ -1,6 +1,6 @@
 -- What calls write at most, computed.
 use Rattle.std.specs.Prelude.{◌≡◌, ◌≤◌, ◌<◌, ℕ, ◌+◌, ◌*◌, List, [], ◌∷◌, Some, None, refl}
-use Rattle.std.proofs.Common.{ap, arith, inr, subst}
+use Rattle.std.proofs.Common.{ap, arith, inl, inr, subst}
 use Rattle.per_base.specs.declared.elements.Content.TheVariants.{Good}
 use Rattle.per_base.specs.declared.errors.PerError.TheVariants as error
 use Rattle.disk_model.specs.Place.{IsNoSlot}
@@ -9,6 +9,7 @@ use Rattle.element_state.specs.Written.{map_cost}
 use Rattle.migrate_fns.specs.Rules.{Rule, Answers}
 use Rattle.command_text.specs.declared.calls.Call.{Call}
 use Rattle.command_text.specs.declared.calls.Call.TheVariants as call
+use Rattle.deploy_laws.specs.Apps.{nothing, says_at}
 use Rattle.deploy_laws.specs.Places.{root_place, storage_shape}
 use Rattle.deploy_rows.specs.Costs.{format_cost, greatest_cost, install_cost, manifests_at, root_cost}
 use Rattle.run_model.specs.Bounds.{StartsWithin}
@@ -18,7 +19,7 @@ use Rattle.run_model.specs.SamplesDamage.{found_so, in_three}
 use Rattle.run_model.specs.SamplesManifests.{cut_text, favourites_text, manifests_read, second_text}
 use Rattle.run_model.specs.Turns.{DiskBytes}
 use Rattle.run_model.specs.Worlds.{Application, World, app_of, at_rest, to_open}
-use Rattle.run_model.specs.Writes.{AreWholeRoots, CostsCall, IsBesideCall, IsWholeRoot, OpensAtMost}
+use Rattle.run_model.specs.Writes.{AllNeedNothing, CostsCall, IsBesideCall, IsRootAlone, OpensAtMost}
 
 -- what a call of application 0 costs in this world, whose root keeps these manifests
 abbrev cost : List (List ℕ) → World → Call → ℕ
@@ -196,17 +197,27 @@ an_install : ¬ (IsBesideCall 0 unopened (call.Install favourites_text) 1024)
 unfolding manifests_read storage_shape
 an_install beside = beside.1.0 0 0 one_copy three_files refl
 
--- nor is that root written where it lacks nothing
-a_whole_root : (old new : DiskBytes) → IsWholeRoot old.image 0 → OpensAtMost 0 to_open old new
+-- nor is that root written where it is held alone, nor a bad one
+a_root_alone : (old new : DiskBytes) → IsRootAlone old.image 0 → OpensAtMost 0 to_open old new
     → new.written ≡ old.written
-a_whole_root old new whole opens = ap (λ (b : DiskBytes). b.written) (opens.already whole)
+a_root_alone old new alone opens = ap (λ (b : DiskBytes). b.written) (opens.already (inl alone))
 
--- a start writes no byte where no root lacks anything
-a_start : (old new : DiskBytes) → AreWholeRoots old.image → StartsWithin old new
-    → ¬ (new.written ≡ old.written + 1)
-a_start old new whole starts more =
-    let same = ap (λ (b : DiskBytes). b.written) (starts.already whole) in
+a_bad_root : (old new : DiskBytes) → says_at old.image 0 ≡ nothing → OpensAtMost 0 to_open old new → new ≡ old
+a_bad_root old new bad opens = opens.already (inr bad)
+
+-- a start writes no byte where no root needs anything
+a_start : (old new : DiskBytes) → AllNeedNothing old.image → StartsWithin old new → ¬ (new.written ≡ old.written + 1)
+a_start old new all starts more =
+    let same = ap (λ (b : DiskBytes). b.written) (starts.already all) in
     absurd (omega (arith, same, more))
+
+no_slot : ¬ (IsNoSlot (root_place 1) 4097)
+no_slot none = none 0 1 (omega arith) (omega arith) refl
+
+-- and leaves what single copies of a bad root hold, whatever the others need: here the slot for odd generations
+a_bad_slot : (old new : DiskBytes) → says_at old.image 1 ≡ nothing → StartsWithin old new
+    → new.image 4097 ≡ old.image 4097
+a_bad_slot old new bad starts = starts.left 1 (omega arith) (inr bad) 4097 no_slot
 
 behind_root : (copy parity : ℕ) → copy < 3 → parity < 2 → ¬ (1024 ≡ 0 + 4 * copy + parity)
 behind_root copy parity three two is = absurd (omega (arith, three, two, is))

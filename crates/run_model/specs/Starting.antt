@@ -9,8 +9,10 @@ use Rattle.disk_model.specs.Case.{Case, IsSettledAt}
 use Rattle.disk_model.specs.Frame.{IsSettledOn, Spares}
 use Rattle.disk_model.specs.Laws.{cases_on, elapses_on}
 use Rattle.disk_model.specs.Medium.{Medium, Quiet, EachCase, Elapses, OnlyReads, WritesNothing}
+use Rattle.disk_model.specs.Place.{IsNoSlot, slot}
 use Rattle.disk_model.specs.lemmas.Frames.{settled_on}
-use Rattle.deploy_laws.specs.Places.{IsFileOf, IsNoFileOf}
+use Rattle.guarded_cell.specs.Register.{Holds, IsBlank, other, own}
+use Rattle.deploy_laws.specs.Places.{IsFileOf, IsNoFileOf, root_place}
 use Rattle.deploy_laws.specs.Apps.{App, app_at, IsCleanApp}
 use Rattle.deploy_laws.specs.Stands.{StandsCase, IsLater, same_root}
 use Rattle.deploy_rows.specs.Costs.{manifests_at, root_cost}
@@ -21,7 +23,7 @@ use Rattle.run_model.specs.Moments.{Between, OrBefore}
 use Rattle.run_model.specs.Runtimes.{IsNoRoot, StartKeeps}
 use Rattle.run_model.specs.Turns.{DiskBytes, bytes_now}
 use Rattle.run_model.specs.Worlds.{Application, disks, disk_at, all_resting, world_at, after_start}
-use Rattle.run_model.specs.Writes.{AreWholeRoots, IsWholeRoot}
+use Rattle.run_model.specs.Writes.{AllNeedNothing, IsRootAlone, IsRootSlot, LeavesRoots, NeedsNothing}
 
 -- ---- the worlds of the start
 
@@ -52,7 +54,7 @@ at_start image b lt = start_disk (app_at image) 0 8 b lt ∙ ap (λ (k : ℕ). r
 -- ---- a start that is under way
 
 -- the roots below this number are opened, the others are as they were, and each application stood so at every moment;
--- no more is written than these roots cost, and nothing where no root lacks anything
+-- no more is written than these roots cost, and nothing where none needs anything
 pub record OpenedUpTo (count : ℕ) (old now : Medium) : Type 0 where
   pub moments : (b : ℕ) → b < 8 → IsCleanApp b old.image
       → EachCase (OrBefore old (StandsCase b (app_at old.image b) (reopened (app_at old.image b)))) old now
@@ -62,7 +64,8 @@ pub record OpenedUpTo (count : ℕ) (old now : Medium) : Type 0 where
   pub roots : Spares IsNoRoot old.image now.image
   pub kept : (b : ℕ) → count ≤ b → b < 8 → manifests_at now.image b ≡ manifests_at old.image b
   pub written : now.written ≤ old.written + roots_cost old.image count
-  pub already : AreWholeRoots old.image → bytes_now now ≡ bytes_now old
+  pub left : LeavesRoots old.image now.image
+  pub already : AllNeedNothing old.image → bytes_now now ≡ bytes_now old
   pub quiet : Quiet now
   pub time : Elapses old now
 
@@ -108,13 +111,62 @@ one_more_cost old now was mid after count same before cost =
     let more = one_more old count in
     omega (arith, before, here, more)
 
--- where the roots before it lacked nothing, and so wrote nothing, and it lacks nothing, no more is written
-pub still_whole : (a : ℕ) (old now new : Medium) → a < 8 → (AreWholeRoots old.image → bytes_now now ≡ bytes_now old)
-    → (IsWholeRoot now.image a → bytes_now new ≡ bytes_now now) → AreWholeRoots old.image
+-- ---- roots that need nothing
+
+-- the slots of one root are none of another's
+slots_apart : (a b file : ℕ) → a < 8 → b < 8 → a ≢ b → IsRootSlot b file → IsNoSlot (root_place a) file
+slots_apart a b file lta ltb differs of copy parity few two is =
+    of (λ copy' parity' few' two' is'. apart copy' parity' few' two' is' (below_or a b))
+  where
+    apart : (copy' parity' : ℕ) → copy' < 3 → parity' < 2 → file ≡ slot (root_place b) copy' parity'
+        → (a < b) ⊎ (b ≤ a) → ⊥
+    apart copy' parity' few' two' is' (inl less) = omega (arith, lta, ltb, few, two, few', two', is, is', less)
+    apart copy' parity' few' two' is' (inr le) = let less = strictly a b le differs in
+        omega (arith, lta, ltb, few, two, few', two', is, is', less)
+
+-- a root is held as long as its slots stay
+held_on : (old new : Image) (app : ℕ) → Spares (IsRootSlot app) old new → IsRootAlone old app → IsRootAlone new app
+held_on old new app same root = record {
+  generation = root.generation;
+  text = root.text;
+  alone = record {
+    held = λ copy few. let two : own root.generation < 2 = omega arith in
+        subst (λ (bytes : List ℕ). Holds (λ file. bytes) (root_place app) copy root.generation root.text)
+        (sym (here copy (own root.generation) few two)) (root.alone.held copy few);
+    blank = λ copy few. let two : other root.generation < 2 = omega arith in
+        subst (λ (bytes : List ℕ). IsBlank bytes) (sym (here copy (other root.generation) few two))
+        (root.alone.blank copy few);
+  };
+}
+  where
+    here : (copy parity : ℕ) → copy < 3 → parity < 2
+        → new (slot (root_place app) copy parity) ≡ old (slot (root_place app) copy parity)
+    here copy parity few two = same (slot (root_place app) copy parity) (λ no. no copy parity few two refl)
+
+needs_on : (old new : Image) (app : ℕ) → app_at new app ≡ app_at old app → Spares (IsRootSlot app) old new
+    → NeedsNothing old app → NeedsNothing new app
+unfolding app_at
+needs_on old new app is same (inl alone) = inl (held_on old new app same alone)
+needs_on old new app is same (inr bad) = inr (ap (λ (a : App). a.says) is ∙ bad)
+
+-- one opening more leaves the slots of each that needs nothing
+pub one_left : (a : ℕ) (old now new : Image) → a < 8 → app_at now a ≡ app_at old a → LeavesRoots old now
+    → Spares (IsNoSlot (root_place a)) now new → (NeedsNothing now a → new ≡ now) → LeavesRoots old new
+one_left a old now new lta is left slots already b ltb needs file of = by (which a b)
+  where
+    by : (a ≡ b) ⊎ (a ≢ b) → new file ≡ old file
+    by (inl e) =
+        let here : NeedsNothing old a = subst (λ (n : ℕ). NeedsNothing old n) (sym e) needs in
+        ap (λ (i : Image). i file) (already (needs_on old now a is (left a lta here) here)) ∙ left b ltb needs file of
+    by (inr differs) = slots file (slots_apart a b file lta ltb differs of) ∙ left b ltb needs file of
+
+-- where none before it needed anything, and so nothing was written, and it needs nothing, no more is written
+pub none_written : (a : ℕ) (old now new : Medium) → a < 8 → (AllNeedNothing old.image → bytes_now now ≡ bytes_now old)
+    → (NeedsNothing now.image a → bytes_now new ≡ bytes_now now) → AllNeedNothing old.image
     → bytes_now new ≡ bytes_now old
-still_whole a old now new lta before here are =
-    let same = before are in
-    here (subst (λ (i : Image). IsWholeRoot i a) (sym (ap (λ (b : DiskBytes). b.image) same)) (are a lta)) ∙ same
+none_written a old now new lta before here all =
+    let same = before all in
+    here (subst (λ (i : Image). NeedsNothing i a) (sym (ap (λ (b : DiskBytes). b.image) same)) (all a lta)) ∙ same
 
 -- one root more
 pub open_next : AppLaws → (a : ℕ) (old now new : Medium) → a < 8 → OpenedUpTo a old now → OpensRoot a now new
@@ -132,7 +184,9 @@ open_next laws a old now new lta o r = record {
       (files_apart a b f (λ e. omega (arith, e, above)) of)) ∙ o.kept b (omega (arith, above)) lt;
   written = one_more_cost old.image now.image old.written now.written new.written a (o.kept a (le_refl a) lta) o.written
       r.written;
-  already = still_whole a old now new lta o.already r.already;
+  left = one_left a old.image now.image new.image lta (o.closed a (le_refl a) lta) o.left r.slots
+      (λ needs. ap (λ (b : DiskBytes). b.image) (r.already needs));
+  already = none_written a old now new lta o.already r.already;
   quiet = r.quiet;
   time = elapses_on o.time r.time;
 }
@@ -190,7 +244,8 @@ open_none laws old now time nothing quiet = record {
   roots = λ f is. ap (λ (i : Image). i f) nothing.image;
   kept = λ b above lt. ap (λ (i : Image). manifests_at i b) nothing.image;
   written = let same = nothing.written in omega (arith, same);
-  already = λ are. ap₂ (λ (i : Image) (n : ℕ). record { image = i; written = n }) nothing.image nothing.written;
+  left = λ b lt needs file of. ap (λ (i : Image). i file) nothing.image;
+  already = λ all. ap₂ (λ (i : Image) (n : ℕ). record { image = i; written = n }) nothing.image nothing.written;
   quiet = quiet;
   time = time;
 }
@@ -228,14 +283,16 @@ pub keeps_worlds : (old new : Medium) → ((b : ℕ) → b < 8 → IsCleanApp b 
     → OnlyReads old new ⊎ ((b : ℕ) → b < 8 → IsCleanApp b old.image → (c : Case) → new.now c
     → StandsCase b (app_at old.image b) (reopened (app_at old.image b)) c)
     → Spares IsNoRoot old.image new.image → new.written ≤ old.written + roots_cost old.image 8
-    → (AreWholeRoots old.image → bytes_now new ≡ bytes_now old) → StartKeeps old new
-keeps_worlds old new moments exit roots cost already = record {
+    → LeavesRoots old.image new.image → (AllNeedNothing old.image → bytes_now new ≡ bytes_now old)
+    → StartKeeps old new
+keeps_worlds old new moments exit roots cost left already = record {
   always = λ b lt clean c s. ⊎_elim (λ before. inl before) (λ stands. inr (between_worlds old.image b lt c stands))
       (moments b lt clean c s);
   at_exit = ⊎_elim (λ reads. inl reads)
       (λ each. inr (λ b lt clean c at. between_worlds old.image b lt c (each b lt clean c at))) exit;
   roots = roots;
   written = cost;
+  left = left;
   already = already;
 }
 
@@ -261,4 +318,4 @@ some_cost image was now count few cost =
 
 pub opened_keeps : AppLaws → (count : ℕ) (old now : Medium) → count ≤ 8 → OpenedUpTo count old now → StartKeeps old now
 opened_keeps laws count old now few o = keeps_worlds old now o.moments (inr (opened_rests laws count old now o)) o.roots
-    (some_cost old.image old.written now.written count few o.written) o.already
+    (some_cost old.image old.written now.written count few o.written) o.left o.already

@@ -21,8 +21,8 @@ use Rattle.run_model.specs.Found.{FoundStorage}
 use Rattle.run_model.specs.Steps.{device_storage, found_named}
 use Rattle.run_model.specs.Turns.{DiskBytes}
 use Rattle.run_model.specs.Worlds.{Application, Sessions, Stage, World, app_of, at_rest, to_open}
-use Rattle.run_model.specs.Writes.{AreWholeRoots, CostsCall, IsBesideCall, IsBesidePlaces, IsCallWithin}
-use Rattle.run_model.specs.Writes.{IsCommandWithin, IsWholeRoot, OpensAtMost}
+use Rattle.run_model.specs.Writes.{AreRootsAlone, CostsCall, IsBesideCall, IsBesidePlaces, IsCallWithin}
+use Rattle.run_model.specs.Writes.{IsCommandWithin, NeedsNothing, OpensAtMost}
 
 none_some : {A : Type 0} (x : Option A) (a : A) → x ≡ None → x ≡ Some a → ⊥
 none_some x a none some = cc
@@ -44,14 +44,14 @@ unchanged old new image written = ap₂ (λ (i : Image) (n : ℕ). record { imag
 no_more : (old new : DiskBytes) → new ≡ old → new.written ≤ old.written
 no_more old new same = let count = ap (λ (b : DiskBytes). b.written) same in omega (arith, count)
 
--- a root whose text is held alone lacks nothing
-pub whole_root : (image : Image) (app generation : ℕ) (text : List ℕ)
-    → IsAlone image (root_place app) generation text → IsWholeRoot image app
-whole_root image app generation text alone = record { generation = generation; text = text; alone = alone }
-
-pub all_whole : (image : Image) (generation : ℕ) (text : List ℕ)
-    → ((app : ℕ) → app < 8 → IsAlone image (root_place app) generation text) → AreWholeRoots image
-all_whole image generation text alone app lt = whole_root image app generation text (alone app lt)
+-- roots that hold this text alone
+pub all_alone : (image : Image) (generation : ℕ) (text : List ℕ)
+    → ((app : ℕ) → app < 8 → IsAlone image (root_place app) generation text) → AreRootsAlone image
+all_alone image generation text alone app lt = record {
+  generation = generation;
+  text = text;
+  alone = alone app lt;
+}
 
 module _ (rules : List Rule) (answers : Answers) (now : ℕ) (r : Application) where
   -- where nothing is written
@@ -104,7 +104,7 @@ pub call_opened : (rules : List Rule) (answers : Answers) (app now : ℕ) (r : A
 call_opened rules answers app now r c old new costs files = record {
   costs = costs_raised rules answers now r app (manifests_at old.image app) c old.written
       (old.written + opening_cost (manifests_at old.image app) r.stage) new.written (omega arith) costs;
-  already = λ whole. costs;
+  already = λ needs. costs;
   files = files;
 }
 
@@ -167,7 +167,7 @@ module _ (a : App) (sessions : Sessions) where
   call_marked : (rules : List Rule) (answers : Answers) (app now : ℕ) (c : Call) (old mid new : DiskBytes)
       → Spares (IsNoSlot (root_place app)) old.image mid.image
       → mid.written ≤ old.written + root_cost (manifests_at old.image app)
-      → (IsWholeRoot old.image app → mid ≡ old)
+      → (NeedsNothing old.image app → mid ≡ old)
       → CostsCall rules answers app now (manifests_at old.image app) opened c (mid.written + 0) new.written
       → ((file : ℕ) → IsNoSlot (root_place app) file × IsBesidePlaces app opened c file
       → new.image file ≡ mid.image file)
@@ -175,7 +175,7 @@ module _ (a : App) (sessions : Sessions) where
   call_marked rules answers app now c old mid new slots cost already costs files = record {
     costs = costs_marked rules answers app now (manifests_at old.image app) c (mid.written + 0)
         (old.written + root_cost (manifests_at old.image app)) new.written (omega (arith, cost)) costs;
-    already = λ whole. let same = no_more old mid (already whole) in
+    already = λ needs. let same = no_more old mid (already needs) in
         costs_marked rules answers app now (manifests_at old.image app) c (mid.written + 0) old.written new.written
         (omega (arith, same)) costs;
     files = λ file beside. files file (beside.0, beside_marked app c file beside.1) ∙ slots file beside.0;
@@ -185,7 +185,7 @@ module _ (a : App) (sessions : Sessions) where
 module _ (rules : List Rule) (answers : Answers) (app now : ℕ) (r : Application) (c : Call) (old mid new : DiskBytes)
     (marked_is : r.stage ≡ to_open) (slots : Spares (IsNoSlot (root_place app)) old.image mid.image)
     (cost : mid.written ≤ old.written + root_cost (manifests_at old.image app))
-    (already : IsWholeRoot old.image app → mid ≡ old) where
+    (already : NeedsNothing old.image app → mid ≡ old) where
   abbrev r' : Application
   r' = record r { disk = reopened r.disk; stage = at_rest }
 
@@ -205,7 +205,7 @@ module _ (rules : List Rule) (answers : Answers) (app now : ℕ) (r : Applicatio
 -- and the opening alone, where the call did nothing
 pub call_unbegun : (rules : List Rule) (answers : Answers) (app now : ℕ) (r : Application) (c : Call)
     (old new : DiskBytes) → r.stage ≡ to_open → Spares (IsNoSlot (root_place app)) old.image new.image
-    → new.written ≤ old.written + root_cost (manifests_at old.image app) → (IsWholeRoot old.image app → new ≡ old)
+    → new.written ≤ old.written + root_cost (manifests_at old.image app) → (NeedsNothing old.image app → new ≡ old)
     → IsCallWithin rules answers app now r c old new
 call_unbegun rules answers app now r c old new marked_is slots cost already =
     behind rules answers app now r c old new new marked_is slots cost already
@@ -219,7 +219,7 @@ pub opens_nothing : (app : ℕ) (stage : Stage) (old new : DiskBytes) → new.im
     → new.written ≡ old.written → OpensAtMost app stage old new
 opens_nothing app stage old new image written = record {
   costs = allowed old.written new.written (opening_cost (manifests_at old.image app) stage) (omega (arith, written));
-  already = λ whole. unchanged old new image written;
+  already = λ needs. unchanged old new image written;
   files = λ file is. ap (λ (i : Image). i file) image;
 }
 
@@ -230,12 +230,12 @@ only_before was opened now cost le same = omega (arith, le, same)
 -- it wrote nothing after its root was opened
 pub opens_alone : (app : ℕ) (stage : Stage) (old mid new : DiskBytes) → stage ≡ to_open
     → Spares (IsNoSlot (root_place app)) old.image mid.image
-    → mid.written ≤ old.written + root_cost (manifests_at old.image app) → (IsWholeRoot old.image app → mid ≡ old)
+    → mid.written ≤ old.written + root_cost (manifests_at old.image app) → (NeedsNothing old.image app → mid ≡ old)
     → new.image ≡ mid.image → new.written ≡ mid.written → OpensAtMost app stage old new
 opens_alone app stage old mid new marked_is slots cost already image written = record {
   costs = subst (λ (s : Stage). new.written ≤ old.written + opening_cost (manifests_at old.image app) s)
       (sym marked_is)
       (only_before old.written mid.written new.written (root_cost (manifests_at old.image app)) cost written);
-  already = λ whole. unchanged mid new image written ∙ already whole;
+  already = λ needs. unchanged mid new image written ∙ already needs;
   files = λ file is. ap (λ (i : Image). i file) image ∙ slots file is;
 }

@@ -13,7 +13,7 @@ use Rattle.command_text.specs.declared.calls.Call.{Call}
 use Rattle.command_text.specs.declared.calls.Call.TheVariants as call
 use Rattle.command_text.specs.declared.calls.Event.{Event}
 use Rattle.command_text.specs.declared.calls.Event.TheVariants as event
-use Rattle.deploy_laws.specs.Apps.{Says, nothing, absent, installed}
+use Rattle.deploy_laws.specs.Apps.{Says, nothing, absent, installed, says_at}
 use Rattle.deploy_laws.specs.Places.{IsBeside, root_place, shapes_from}
 use Rattle.deploy_rows.specs.Costs.{manifests_at, storages_said}
 use Rattle.deploy_rows.specs.Rows.{BeginsUpdate, InProgress}
@@ -24,17 +24,32 @@ use Rattle.run_model.specs.Steps.{device_storage, found_named}
 use Rattle.run_model.specs.Turns.{DiskBytes}
 use Rattle.run_model.specs.Worlds.{Application, Stage, World, app_of, update_in}
 
--- ---- roots that lack nothing
+-- ---- roots that need nothing
 
 -- every copy of the application's root holds one text, and no other is held
-pub record IsWholeRoot (image : Image) (app : ℕ) : Type 0 where
+pub record IsRootAlone (image : Image) (app : ℕ) : Type 0 where
   pub generation : ℕ
   pub text : List ℕ
   pub alone : IsAlone image (root_place app) generation text
 
--- the roots of all eight
-abbrev pub AreWholeRoots : Image → Type 0
-AreWholeRoots image = (app : ℕ) → app < 8 → IsWholeRoot image app
+-- an opening finds nothing to write: the root is held alone, or it is bad
+abbrev pub NeedsNothing : Image → (app : ℕ) → Type 0
+NeedsNothing image app = IsRootAlone image app ⊎ (says_at image app ≡ nothing)
+
+-- the same of the roots of all eight
+abbrev pub AreRootsAlone : Image → Type 0
+AreRootsAlone image = (app : ℕ) → app < 8 → IsRootAlone image app
+
+abbrev pub AllNeedNothing : Image → Type 0
+AllNeedNothing image = (app : ℕ) → app < 8 → NeedsNothing image app
+
+-- the file is a slot of the application's root
+abbrev pub IsRootSlot : (app : ℕ) → ℕ → Type 0
+IsRootSlot app file = ¬ (IsNoSlot (root_place app) file)
+
+-- each root that needs nothing keeps its slots, whatever the others need
+abbrev pub LeavesRoots : (old new : Image) → Type 0
+LeavesRoots old new = (app : ℕ) → app < 8 → NeedsNothing old app → Spares (IsRootSlot app) old new
 
 -- ---- bytes
 
@@ -94,12 +109,12 @@ IsBesideCall app r c file = IsNoSlot (root_place app) file × IsBesidePlaces app
 -- ---- both
 
 -- What a call on application `r` wrote, and which files it may have changed, also where its root was opened first: the
--- root may then have been written once for that, and is not where it lacks nothing (`already`).
+-- root may then have been written once for that, and is not where it needs nothing (`already`).
 pub record IsCallWithin (rules : List Rule) (answers : Answers) (app now : ℕ) (r : Application) (c : Call)
     (old new : DiskBytes) : Type 0 where
   pub costs : CostsCall rules answers app now (manifests_at old.image app) r c
       (old.written + opening_cost (manifests_at old.image app) r.stage) new.written
-  pub already : IsWholeRoot old.image app
+  pub already : NeedsNothing old.image app
       → CostsCall rules answers app now (manifests_at old.image app) r c old.written new.written
   pub files : Spares (IsBesideCall app r c) old.image new.image
 
@@ -112,10 +127,10 @@ IsCommandWithin rules answers w (event.App app c) old new =
 -- ---- a refused command
 
 -- Nothing but the opening of the root, where it is to be opened: no more is written than that costs, and nothing where
--- the root lacks nothing; and no file changes but slots of the root.
+-- the root needs nothing; and no file changes but slots of the root.
 pub record OpensAtMost (app : ℕ) (stage : Stage) (old new : DiskBytes) : Type 0 where
   pub costs : new.written ≤ old.written + opening_cost (manifests_at old.image app) stage
-  pub already : IsWholeRoot old.image app → new ≡ old
+  pub already : NeedsNothing old.image app → new ≡ old
   pub files : Spares (IsNoSlot (root_place app)) old.image new.image
 
 -- the same of a command's application

@@ -1,15 +1,19 @@
 -- A call of a deployment touches files of its application alone, and one that is answered from memory touches none.
-use Rattle.std.proofs.Common.{◌≡◌, ℕ, ◌<◌, ◌≤◌, Bool, IsTrue, refl, sym, subst, inl, inr, arith}
+use Rattle.std.proofs.Common.{◌≡◌, ℕ, ◌<◌, ◌≤◌, List, Bool, IsTrue, refl, sym, subst, inl, inr, arith}
 use Rattle.disk_model.specs.Case.{Case, IsSettledAt}
 use Rattle.disk_model.specs.Frame.{IsSettledOn, Spares}
 use Rattle.disk_model.specs.Image.{Image}
 use Rattle.disk_model.specs.Medium.{EachCase, IsIdle, IsLawful, Medium, Quiet}
+use Rattle.guarded_cell.specs.Register.{IsAlone}
 use Rattle.deploy.specs.Clauses.{IsBesideNext, IsNoRootSlot, Leaves}
 use Rattle.deploy.specs.Remaining.{IsBesideCommit}
-use Rattle.deploy_laws.specs.Apps.{App, app_at}
+use Rattle.deploy_laws.specs.Apps.{App, app_at, nothing, says_at}
 use Rattle.deploy_laws.specs.Laws.{UntouchedAppLaw}
-use Rattle.deploy_laws.specs.Places.{IsBeside, IsFileOf, IsNoFileOf, IsOutsideBank}
+use Rattle.deploy_laws.specs.Places.{IsBeside, IsFileOf, IsNoFileOf, IsOutsideBank, root_place}
 use Rattle.deploy_laws.specs.Stands.{StandsThroughout}
+use Rattle.run_model.specs.Turns.{bytes_now}
+use Rattle.run_model.specs.WriteLaws.{unchanged}
+use Rattle.run_model.specs.Writes.{NeedsNothing}
 use Rattle.per_runtime.specs.storages.Answers.{CallsTo}
 
 -- ---- files
@@ -34,6 +38,21 @@ beside_commit app bank built count f small leb few (inr le) =
 pub beside : (app bank number f : ℕ) → bank ≤ 1 → number ≤ 16 → IsNoFileOf app f → IsBeside app bank number f
 beside app bank number f leb ltn (inl lt) = inl (omega (arith, lt))
 beside app bank number f leb ltn (inr le) = inr (omega (arith, le, leb, ltn))
+
+-- ---- the opening of a root
+
+-- one that needed nothing
+pub nothing_written : (old new : Medium) (app : ℕ)
+    → ((generation : ℕ) (text : List ℕ) → IsAlone old.image (root_place app) generation text
+    → (new.image ≡ old.image) × (new.written ≡ old.written))
+    → (says_at old.image app ≡ nothing → (new.image ≡ old.image) × (new.written ≡ old.written))
+    → NeedsNothing old.image app → bytes_now new ≡ bytes_now old
+nothing_written old new app alone bad (inl root) =
+    let same = alone root.generation root.text root.alone in
+    unchanged (bytes_now old) (bytes_now new) same.0 same.1
+nothing_written old new app alone bad (inr says) =
+    let same = bad says in
+    unchanged (bytes_now old) (bytes_now new) same.0 same.1
 
 -- ---- cases
 

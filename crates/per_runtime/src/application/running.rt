@@ -17,7 +17,7 @@ ghost use Rattle.run_model.specs.Calls.{beside_update};
 ghost use Rattle.run_model.specs.Steps.{calls_device};
 ghost use Rattle.run_model.specs.Turns.{bytes_now};
 ghost use Rattle.run_model.specs.Worlds.{at_rest, is_to_open, none_open, to_open, update_in};
-ghost use Rattle.run_model.specs.Writes.{IsWholeRoot};
+ghost use Rattle.run_model.specs.Writes.{NeedsNothing};
 ghost use Rattle.per_runtime.specs.Sorting.{asked_call, deploying_call};
 ghost use Rattle.per_runtime.specs.storages.Answers.{CallsTo};
 ghost use Rattle.per_runtime.specs.application.Promises.{Promises};
@@ -113,8 +113,9 @@ impl Running {
         ensures opened { OnOk result (running_in self.new ≡ record { stage = at_rest; sessions = none_open }) }
         ensures failed { (e : Stop) → IsErrOf result e → running_in self.new ≡ running_in self.old }
         ensures root { IsTrue D.told → OnOk result (OpensRoot self.old.app (D.medium disk.old) (D.medium disk.new)) }
-        // Where every copy of the root holds one text and no other is held, nothing is written, however it ends.
-        ensures already { IsTrue D.told → IsWholeRoot (D.medium disk.old).image self.old.app
+        // Where every copy of the root holds one text and no other is held, or the root is bad, nothing is written,
+        // however it ends.
+        ensures already { IsTrue D.told → NeedsNothing (D.medium disk.old).image self.old.app
             → bytes_now (D.medium disk.new) ≡ bytes_now (D.medium disk.old) }
         // However it ends: at every moment the application stands between what it was and any later state, no file of
         // another changes, and of its own none but slots of the root.

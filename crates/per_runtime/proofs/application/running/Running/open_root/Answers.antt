@@ -1,8 +1,7 @@
 use Rattle.std.proofs.Common.{◌∙◌}
 use Rattle.deploy.specs.Clauses.{IsNoRootSlot}
-use Rattle.run_model.specs.Turns.{bytes_now}
-use Rattle.run_model.specs.WriteLaws.{unchanged}
 use Rattle.per_runtime.proofs.application_lemmas.Frames.{aside_at_the_end, aside_throughout, calls_to, no_root}
+use Rattle.per_runtime.proofs.application_lemmas.Frames.{nothing_written}
 use Rattle.per_runtime.proofs.application.running.Running.open_root.Goals as goal
 
 pub returns-in_err-root-clause-on_the_way : goal.returns-in_err-root-clause-on_the_way
@@ -13,16 +12,14 @@ returns-in_err-root-clause-on_the_way g c = λ tells next later.
     (λ quiet clean. c.open_root.ensures.any_moment tells quiet clean next later)
 
 pub returns-in_err-root-clause-already : goal.returns-in_err-root-clause-already
-returns-in_err-root-clause-already g c = λ tells whole.
-    let same = c.open_root.ensures.already tells whole.generation whole.text whole.alone in
-    unchanged (bytes_now (g.D.Disk.medium c.args.disk.now)) (bytes_now (g.D.Disk.medium c.open_root.new.disk)) same.0
-    same.1
+returns-in_err-root-clause-already g c = λ tells.
+    nothing_written (g.D.Disk.medium c.args.disk.now) (g.D.Disk.medium c.open_root.new.disk) c.args.self.now.app
+    (c.open_root.ensures.already tells) (c.open_root.ensures.bad tells)
 
 pub returns-clause-already : goal.returns-clause-already
-returns-clause-already g c = λ tells whole.
-    let same = c.open_root.ensures.already tells whole.generation whole.text whole.alone in
-    unchanged (bytes_now (g.D.Disk.medium c.args.disk.now)) (bytes_now (g.D.Disk.medium c.open_root.new.disk)) same.0
-    same.1
+returns-clause-already g c = λ tells.
+    nothing_written (g.D.Disk.medium c.args.disk.now) (g.D.Disk.medium c.open_root.new.disk) c.args.self.now.app
+    (c.open_root.ensures.already tells) (c.open_root.ensures.bad tells)
 
 pub returns-clause-on_the_way : goal.returns-clause-on_the_way
 returns-clause-on_the_way g c = λ tells next later. calls_to g.D.Disk.told c.args.self.now.app next
@@ -45,9 +42,8 @@ returns-clause-root g c = λ tells. record {
       c.in_ok-root.root c.in_ok-root.ensures.root.memory (c.in_ok-root.ensures.root.disk tells)
       ∙ c.in_ok-root.ensures.manifests tells;
   written = c.open_root.ensures.once tells;
-  already = λ whole. let same = c.open_root.ensures.already tells whole.generation whole.text whole.alone in
-      unchanged (bytes_now (g.D.Disk.medium c.args.disk.now)) (bytes_now (g.D.Disk.medium c.open_root.new.disk)) same.0
-      same.1;
+  already = nothing_written (g.D.Disk.medium c.args.disk.now) (g.D.Disk.medium c.open_root.new.disk) c.args.self.now.app
+      (c.open_root.ensures.already tells) (c.open_root.ensures.bad tells);
   clean = λ clean. c.in_ok-root.ensures.clean tells clean;
   quiet = c.in_ok-root.ensures.quiet;
   time = c.open_root.ensures.time;
