@@ -1,5 +1,5 @@
-mod Json
 mod Results
 mod Ruled
+mod Things
 mod Types
 mod Wrong
