@@ -1,3 +1,4 @@
+mod Dumped
 mod Results
 mod Ruled
 mod Things
