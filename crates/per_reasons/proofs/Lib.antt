@@ -1,5 +1,6 @@
-mod Json
+mod Dumped
 mod Results
 mod Ruled
+mod Things
 mod Types
 mod Wrong

@@ -35,15 +35,15 @@ same_of : (k : Kind) (t : Tree) → IsType k → IsValue t → bytes_eq (type_te
 same_of k t type value equal = same_type (type_of t) k (type_of_value t value) type
     ((bytes_eq-Decides (type_text (type_of t)) (type_text k)).0 equal)
 
-is_decided : (yes test : Bool) (bytes : List ℕ) → (yes ≡ true → test ≡ true) → (test ≡ true → yes ≡ true)
-    → yes ≡ is_some (if test then Some bytes else None)
+is_decided : (has test : Bool) (bytes : List ℕ) → (has ≡ true → test ≡ true) → (test ≡ true → has ≡ true)
+    → has ≡ is_some (if test then Some bytes else None)
 is_decided true true bytes on back = refl
 is_decided true false bytes on back = absurd (true≢false (sym (on refl)))
 is_decided false true bytes on back = absurd (true≢false (sym (back refl)))
 is_decided false false bytes on back = refl
 
 -- a value has an encoding as one of this type exactly where it has the type
-pub encodes : (k : Kind) (t : Tree) (yes : Bool) → IsType k → IsValue t → IsTrue yes ↔ (type_of t ≡ k)
-    → yes ≡ is_some (encoding_as k t)
-encodes k t yes type value decides = is_decided yes (bytes_eq (type_text (type_of t)) (type_text k)) (encoding t)
+pub encodes : (k : Kind) (t : Tree) (has : Bool) → IsType k → IsValue t → IsTrue has ↔ (type_of t ≡ k)
+    → has ≡ is_some (encoding_as k t)
+encodes k t has type value decides = is_decided has (bytes_eq (type_text (type_of t)) (type_text k)) (encoding t)
     (λ is. alike k t (decides.0 is)) (λ is. decides.1 (same_of k t type value is))

@@ -7,8 +7,3 @@ pub wrong : (word dots needed text : List ℕ) → (IsShown word → ⊥) → te
     → IsNeededText word dots needed text
 wrong [] dots needed text lacks is = absurd (lacks (IsUtf8-nil, refl))
 wrong (byte ∷ word) dots needed text lacks is = (λ shown. absurd (lacks shown), λ none. is)
-
-pub right : (word dots needed text : List ℕ) → IsShown word → text ≡ word ++ (dots ++ (codes " is to be " ++ needed))
-    → (word ≡ [] → ⊥) → IsNeededText word dots needed text
-right [] dots needed text shows is some = absurd (some refl)
-right (byte ∷ word) dots needed text shows is some = (λ shown. is, λ lacks. absurd (lacks shows))

@@ -1,3 +1,4 @@
+pub mod Dumps
 pub mod Initials
 pub mod Numbers
 pub mod Parts

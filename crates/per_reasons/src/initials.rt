@@ -26,7 +26,7 @@ pub(crate) fn why_initial(alloc: Global, manifest: &[u8]) -> Result<Option<Strin
         return Ok(None);
     };
     match unread_text(alloc, &manifest)? {
-        Some(text) => why_no_value(alloc, text.as_bytes()),
+        Some(text) => why_no_value(alloc, text),
         None => Ok(None),
     }
 }

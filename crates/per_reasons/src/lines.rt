@@ -91,11 +91,11 @@ pub fn why_no_call(alloc: Global, line: &[u8]) -> Result<Option<String>, AllocEr
 }
 
 /// Why a text is that of no value, in words, as [`why_no_call`] says it of a call with this value.
-pub(crate) fn why_no_value(alloc: Global, text: &[u8]) -> Result<Option<String>, AllocError>
+pub(crate) fn why_no_value(alloc: Global, text: &str) -> Result<Option<String>, AllocError>
     ensures { IfOk result (λ why. SaysNoValue (Some text.now) (option_map string_bytes why)) }
 {
     let mut line = Vec::from_slice(alloc, b"0 set k a ")?;
-    line.extend_from_slice(text)?;
+    line.extend_from_slice(text.as_bytes())?;
     why_no_call(alloc, line.as_slice())
 }
 

@@ -1,6 +1,6 @@
 use Rattle.std.proofs.Common.{ap, map, Some, ◌∙◌}
 use Rattle.serde_json.specs.View.{view}
-use Rattle.per_reasons.proofs.Json.{things_listed}
+use Rattle.per_reasons.proofs.Things.{things_listed}
 use Rattle.per_reasons.proofs.json.items_of.Goals as goal
 
 pub returns-in-Some : goal.returns-in-Some

@@ -1,5 +1,5 @@
 use Rattle.std.proofs.Common.{sym, ◌∙◌, true≢false}
-use Rattle.per_reasons.proofs.Json.{value_none, value_read}
+use Rattle.per_reasons.proofs.Things.{value_none, value_read}
 use Rattle.per_reasons.proofs.json.value_of.Goals as goal
 
 pub returns-in-Ok : goal.returns-in-Ok
