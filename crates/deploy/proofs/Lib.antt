@@ -24,6 +24,7 @@ pub mod ReadStored
 pub mod ReadsAlone
 pub mod Recoveries
 pub mod Rescued
+pub mod RootLast
 pub mod RootLens
 pub mod RowsInUse
 pub mod Settled

@@ -20,7 +20,7 @@ ghost use Rattle.deploy.specs.Clauses.{IsBesideNext, Leaves};
 ghost use Rattle.deploy.specs.Filled.{filled_app};
 ghost use Rattle.deploy.specs.Made.{AreMade};
 ghost use Rattle.deploy_rows.specs.Costs.{install_cost, making_costs, storages_said};
-ghost use Rattle.deploy.specs.Making.{IsBesideMade};
+ghost use Rattle.deploy.specs.Making.{IsBesideMade, RootComesLast, contents_said, making_from};
 ghost use Rattle.deploy.specs.Next.{next_app, root_before};
 ghost use Rattle.deploy.specs.Refusals.{AllocatesNothing};
 ghost use Rattle.deploy.specs.Remaining.{IsBesideCommit};
@@ -94,6 +94,10 @@ pub fn install<D: Disk>(
         (D.medium disk.old) (D.medium disk.new) }
     // No more is written than these storages cost, and then the root.
     ensures written { (D.medium disk.new).written ≤ (D.medium disk.old).written + install_cost now manifest.now }
+    // The storages come first, and then the root, which is written once.
+    ensures last { RootComesLast D.medium D.told app
+        (making_from app 0 0 (storages_said manifest.now) (contents_said now manifest.now) (manifest.now ∷ []))
+        disk.old disk.new }
     ensures any_moment { IsTrue D.told → StandsThroughout app
         (after (app_at (D.medium disk.old).image app) (installing now manifest.now
         (app_at (D.medium disk.old).image app)))
@@ -150,6 +154,9 @@ fn install_first<D: Disk>(
     ensures places { Leaves D.told (IsBesideMade app (shapes_from app 0 0 (storages_said manifest.now)))
         (D.medium disk.old) (D.medium disk.new) }
     ensures written { (D.medium disk.new).written ≤ (D.medium disk.old).written + install_cost now manifest.now }
+    ensures last { RootComesLast D.medium D.told app
+        (making_from app 0 0 (storages_said manifest.now) (contents_said now manifest.now) (manifest.now ∷ []))
+        disk.old disk.new }
     ensures any_moment { IsTrue D.told → StandsThroughout app
         (after (app_at (D.medium disk.old).image app) (installing now manifest.now
         (app_at (D.medium disk.old).image app)))
@@ -205,6 +212,10 @@ fn install_version<D: Disk>(
     ensures written { (D.medium disk.new).written ≤ (D.medium disk.old).written
         + (making_costs (map storage_data version.deployment.storages)
         (initial_all now (deployment_data version.deployment)) + root_cost (version.text ∷ [])) }
+    ensures last { RootComesLast D.medium D.told app
+        (making_from app 0 0 (map storage_data version.deployment.storages)
+        (initial_all now (deployment_data version.deployment)) (version.text ∷ []))
+        disk.old disk.new }
     ensures any_moment { IsTrue D.told → StandsThroughout app
         (installed_app (generation_of cell) now (deployment_data version.deployment))
         (D.medium disk.old) (D.medium disk.new) }
@@ -265,6 +276,10 @@ pub fn install_filled<D: Disk>(
     // No more is written than these storages cost, and then the root.
     ensures written { (D.medium disk.new).written ≤ (D.medium disk.old).written
         + (making_costs (map storage_data version.deployment.storages) contents.now + root_cost (version.text ∷ [])) }
+    // The storages come first, and then the root, which is written once.
+    ensures last { RootComesLast D.medium D.told app
+        (making_from app 0 0 (map storage_data version.deployment.storages) contents.now (version.text ∷ []))
+        disk.old disk.new }
     ensures any_moment { IsTrue D.told → StandsThroughout app
         (filled_app (generation_of cell) (deployment_data version.deployment) contents.now)
         (D.medium disk.old) (D.medium disk.new) }
@@ -336,6 +351,11 @@ pub(crate) fn make_version<D: Disk>(
     ensures written { (D.medium disk.new).written ≤ (D.medium disk.old).written
         + (making_costs (drop built (map storage_data version.now.deployment.storages)) (drop built contents.now)
         + root_cost (version.now.text ∷ previous_texts (option_map (λ v. v.now) previous.entry))) }
+    // The storages come first, and then the root, which is written once.
+    ensures last { RootComesLast D.medium D.told app
+        (making_from app bank built (map storage_data version.now.deployment.storages) contents.now
+        (version.now.text ∷ previous_texts (option_map (λ v. v.now) previous.entry)))
+        disk.old disk.new }
     ensures any_moment { IsTrue D.told → StandsThroughout app
         (next_app (generation_of cell + 1) bank (version_said version.now)
         (option_map (λ v. version_said v.now) previous.entry) contents.now

@@ -20,7 +20,7 @@ ghost use Rattle.deploy.specs.Building.{IsStaged, IsUpdateBegun, StagedAt, begun
 ghost use Rattle.deploy.specs.Building.{staged_root, staged_text};
 ghost use Rattle.deploy.specs.Clauses.{IsNoRootSlot, Leaves};
 ghost use Rattle.deploy_rows.specs.Costs.{making_costs};
-ghost use Rattle.deploy.specs.Making.{IsBesideMade, IsInNone};
+ghost use Rattle.deploy.specs.Making.{IsBesideMade, IsInNone, RootComesLast, making_from};
 ghost use Rattle.deploy.specs.Refusals.{AllocatesNothing};
 ghost use Rattle.deploy.specs.Remaining.{IsBesideCommit};
 ghost use Rattle.deploy.specs.Roots.{RootAt, SaysDeployment, free_bank, root_app, root_says, root_texts};
@@ -498,6 +498,12 @@ impl Staged {
             (drop (staged_progress self).built (staged_progress self).deployment.storages)
             (drop (staged_progress self).built (staged_progress self).contents)
             + root_cost (staged_text self ∷ root_texts (staged_root self))) }
+        // The storages come first, and then the root, which is written once.
+        ensures last { RootComesLast D.medium D.told self.app
+            (making_from self.app (free_bank (staged_root self)) (staged_progress self).built
+            (staged_progress self).deployment.storages (staged_progress self).contents
+            (staged_text self ∷ root_texts (staged_root self)))
+            disk.old disk.new }
         ensures any_moment { IsTrue D.told → StandsThroughout self.app
             (updated_app (staged_progress self) (app_at (D.medium disk.old).image self.app)) (D.medium disk.old)
             (D.medium disk.new) }

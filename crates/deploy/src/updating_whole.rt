@@ -1,16 +1,18 @@
 //! An update in one call.
 
-ghost use Rattle.std.specs.Prelude.{◌≡◌, ◌<◌, [], ◌∷◌, Err, IfOk, IsErrOf, IsOk, IsTrue, None, OnOk, option_map, ◌≢◌};
+ghost use Rattle.std.specs.Prelude.{◌≡◌, ◌⊎◌, ◌<◌, [], ◌∷◌, Err, IfOk, IsErrOf, IsOk, IsTrue, None, OnOk, option_map};
+ghost use Rattle.std.specs.Prelude.{◌≢◌};
 ghost use Rattle.per_base.specs.Causes.{Rose};
 ghost use Rattle.per_base.specs.declared.errors.PerError.{PerError};
 ghost use Rattle.disk_model.specs.Medium.{Elapses, Quiet};
 ghost use Rattle.migrate_fns.specs.Stored.{answers_of, rules_of};
 ghost use Rattle.deploy_laws.specs.Apps.{IsCleanApp, app_at};
 ghost use Rattle.deploy_laws.specs.Places.{shapes_from};
-ghost use Rattle.deploy_rows.specs.Rows.{BeginsUpdate, UpdateMayLead, offered};
+ghost use Rattle.deploy_laws.specs.Stands.{ChangesNothing};
+ghost use Rattle.deploy_rows.specs.Rows.{BeginsUpdate, InProgress, UpdateMayLead, offered};
 ghost use Rattle.deploy.specs.Clauses.{IsBesideNext, Leaves};
 ghost use Rattle.deploy_rows.specs.Costs.{storages_said};
-ghost use Rattle.deploy.specs.Making.{IsBesideMade, WritesUpdate};
+ghost use Rattle.deploy.specs.Making.{IsBesideMade, MayBegin, RootComesLast, WritesUpdate, making_from};
 ghost use Rattle.deploy.specs.Refusals.{AllocatesNothing};
 ghost use Rattle.deploy.specs.Roots.{RootAt, free_bank, root_app, root_texts};
 ghost use Rattle.deploy.specs.Updates.{IsUpdated, LeadsTo};
@@ -89,6 +91,16 @@ pub fn update<D: Disk>(
         (BeginsUpdate (rules_of migrations.now) (answers_of migrations.now) now (option_map (λ n. n.now) busy.entry)
         manifest.now)
         app root manifest.now (D.medium disk.old) (D.medium disk.new) }
+    // Nothing is written, or the storages come first, with the contents that the update begins with, and then the root,
+    // which is written once.
+    ensures last { ChangesNothing (D.medium disk.old) (D.medium disk.new)
+        ⊎ ((p : InProgress) × MayBegin D.told
+        (BeginsUpdate (rules_of migrations.now) (answers_of migrations.now) now (option_map (λ n. n.now) busy.entry)
+        manifest.now)
+        app root (D.medium disk.old).image p
+        × RootComesLast D.medium D.told app
+        (making_from app (free_bank root) 0 (storages_said manifest.now) p.contents (manifest.now ∷ root_texts root))
+        disk.old disk.new) }
     ensures any_moment { IsTrue D.told → LeadsTo app
         (UpdateMayLead (rules_of migrations.now) (answers_of migrations.now) now (option_map (λ n. n.now) busy.entry)
         manifest.now

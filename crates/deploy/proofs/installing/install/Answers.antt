@@ -9,6 +9,7 @@ use Rattle.deploy.specs.Roots.{root_app, root_says}
 use Rattle.deploy.proofs.Due.{install_takes}
 use Rattle.deploy.proofs.InstallRow.{over_bad, over_installed}
 use Rattle.deploy.proofs.Leaves.{leaves_none}
+use Rattle.deploy.proofs.RootLast.{last_none}
 use Rattle.deploy.proofs.RootLens.{none_written}
 use Rattle.deploy.proofs.Unmoved.{answered, app_after, later_after, row_given, says_still, stands_still}
 use Rattle.deploy.proofs.installing.install.Goals as goal
@@ -89,3 +90,14 @@ returns-in-Absent-clause-places g c = c.install_first.ensures.places
 
 pub returns-in-Absent-clause-written : goal.returns-in-Absent-clause-written
 returns-in-Absent-clause-written g c = c.install_first.ensures.written
+
+pub returns-in-Bad-clause-last : goal.returns-in-Bad-clause-last
+returns-in-Bad-clause-last g c = last_none g.D.Disk.medium g.D.Disk.told c.args.app _ c.args.disk.now
+    (g.met.D.Disk.lawful c.args.disk.now)
+
+pub returns-in-Installed-clause-last : goal.returns-in-Installed-clause-last
+returns-in-Installed-clause-last g c = last_none g.D.Disk.medium g.D.Disk.told c.args.app _ c.args.disk.now
+    (g.met.D.Disk.lawful c.args.disk.now)
+
+pub returns-in-Absent-clause-last : goal.returns-in-Absent-clause-last
+returns-in-Absent-clause-last g c = c.install_first.ensures.last

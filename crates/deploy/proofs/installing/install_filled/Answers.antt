@@ -78,3 +78,9 @@ returns-clause-places g c = c.in_ok-cell.ensures.places
 
 pub returns-clause-written : goal.returns-clause-written
 returns-clause-written g c = c.in_ok-cell.ensures.written
+
+pub returns-in_err-cell-clause-last : goal.returns-in_err-cell-clause-last
+returns-in_err-cell-clause-last g c = c.in_err-cell.ensures.last
+
+pub returns-clause-last : goal.returns-clause-last
+returns-clause-last g c = c.in_ok-cell.ensures.last

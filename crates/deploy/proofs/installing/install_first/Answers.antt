@@ -15,6 +15,7 @@ use Rattle.deploy.proofs.FirstVersion.{if_ok, says_absent}
 use Rattle.deploy.proofs.InstallRow.{installs, rejected, worn_out}
 use Rattle.deploy.proofs.Leaves.{leaves_none}
 use Rattle.deploy.proofs.MadePlaces.{said_places, said_written}
+use Rattle.deploy.proofs.RootLast.{last_none, said_last}
 use Rattle.deploy.proofs.RootLens.{none_written}
 use Rattle.deploy.proofs.Unmoved.{answered, app_after, later_after, led_after, led_answers, led_is_ok}
 use Rattle.deploy.proofs.Unmoved.{led_never_refused, says_still, stands_still}
@@ -197,3 +198,23 @@ returns-clause-written g c = said_written c.args.manifest.now c.in-Ok.version
     c.in_ok-version.ensures.told) c.args.now _ _
     (subst (λ (r : Result VersionText PerError). IfOk r (λ v. v.text ≡ c.args.manifest.now)) c.in-Ok.is
     c.in_ok-version.ensures.text) c.install_version.ensures.written
+
+pub returns-in_err-version-clause-last : goal.returns-in_err-version-clause-last
+returns-in_err-version-clause-last g c = last_none g.D.Disk.medium g.D.Disk.told c.args.app _ c.args.disk.now
+    (g.met.D.Disk.lawful c.args.disk.now)
+
+pub returns-in-Err-clause-last : goal.returns-in-Err-clause-last
+returns-in-Err-clause-last g c = last_none g.D.Disk.medium g.D.Disk.told c.args.app _ c.args.disk.now
+    (g.met.D.Disk.lawful c.args.disk.now)
+
+pub returns-then-generation-clause-last : goal.returns-then-generation-clause-last
+returns-then-generation-clause-last g c = last_none g.D.Disk.medium g.D.Disk.told c.args.app _ c.args.disk.now
+    (g.met.D.Disk.lawful c.args.disk.now)
+
+pub returns-clause-last : goal.returns-clause-last
+returns-clause-last g c = said_last g.D.Disk.medium g.D.Disk.told c.args.app c.args.manifest.now c.in-Ok.version
+    c.args.now c.args.disk.now c.install_version.new.disk
+    (subst (λ (r : Result VersionText PerError). TellsRow (deployment_of c.args.manifest.now) r) c.in-Ok.is
+    c.in_ok-version.ensures.told)
+    (subst (λ (r : Result VersionText PerError). IfOk r (λ v. v.text ≡ c.args.manifest.now)) c.in-Ok.is
+    c.in_ok-version.ensures.text) c.install_version.ensures.last

@@ -8,9 +8,11 @@ use Rattle.deploy_laws.specs.Apps.{App}
 use Rattle.deploy_laws.specs.Stands.{StandsThroughout}
 use Rattle.deploy.specs.Clauses.{IsBesideNext}
 use Rattle.deploy_rows.specs.Costs.{making_costs, root_cost}
+use Rattle.deploy.specs.Making.{RootComesLast, making_from}
 use Rattle.deploy.proofs.FirstVersion.{comes_later}
 use Rattle.deploy.proofs.InstallRow.{filled_installs}
 use Rattle.deploy.proofs.Leaves.{leaves_none}
+use Rattle.deploy.proofs.RootLast.{last_none}
 use Rattle.deploy.proofs.RootLens.{none_written}
 use Rattle.deploy.proofs.Unmoved.{stands_still}
 use Rattle.deploy.proofs.installing.install_version.Goals as goal
@@ -74,3 +76,21 @@ returns-clause-written g c = subst (λ (cs : List (List Fresh)).
     (g.D.Disk.medium c.install_filled.new.disk).written ≤ (g.D.Disk.medium c.args.disk.now).written
     + (making_costs (map storage_data c.args.version.deployment.storages) cs + root_cost (c.args.version.text ∷ [])))
     (c.deref.ensures.value ∙ c.in_ok-contents.ensures.contents) c.in_ok-root.ensures.written
+
+pub returns-in_err-contents-clause-last : goal.returns-in_err-contents-clause-last
+returns-in_err-contents-clause-last g c = last_none g.D.Disk.medium g.D.Disk.told c.args.app _ c.args.disk.now
+    (g.met.D.Disk.lawful c.args.disk.now)
+
+pub returns-in_err-root-clause-last : goal.returns-in_err-root-clause-last
+returns-in_err-root-clause-last g c = subst (λ (cs : List (List Fresh)).
+    RootComesLast g.D.Disk.medium g.D.Disk.told c.args.app
+    (making_from c.args.app 0 0 (map storage_data c.args.version.deployment.storages) cs (c.args.version.text ∷ []))
+    c.args.disk.now c.install_filled.new.disk)
+    (c.deref.ensures.value ∙ c.in_ok-contents.ensures.contents) c.in_err-root.ensures.last
+
+pub returns-clause-last : goal.returns-clause-last
+returns-clause-last g c = subst (λ (cs : List (List Fresh)).
+    RootComesLast g.D.Disk.medium g.D.Disk.told c.args.app
+    (making_from c.args.app 0 0 (map storage_data c.args.version.deployment.storages) cs (c.args.version.text ∷ []))
+    c.args.disk.now c.install_filled.new.disk)
+    (c.deref.ensures.value ∙ c.in_ok-contents.ensures.contents) c.in_ok-root.ensures.last

@@ -1,5 +1,5 @@
 use denote.Ref.{Bor}
-use Rattle.std.proofs.Common.{◌+◌, IsTrue, length, subst}
+use Rattle.std.proofs.Common.{◌+◌, IsTrue, length, inl, subst}
 use Rattle.std.specs.Prelude.{IfOk, option_map}
 use Rattle.disk_model.specs.declared.place.Place.{Place}
 use Rattle.disk_model.specs.Frame.{Spares}
@@ -18,6 +18,7 @@ use Rattle.deploy.proofs.MadePlaces.{both_written, made_places, rooted_places, s
 use Rattle.deploy.proofs.MadeStorages.{outside_rest}
 use Rattle.deploy.proofs.NextVersion.{app_after, clean_after, if_behind, leaves_making, leaves_next, leaves_writing}
 use Rattle.deploy.proofs.NextVersion.{on_written, root_kept, stands_making, stands_written}
+use Rattle.deploy.proofs.RootLast.{last_made}
 use Rattle.deploy.proofs.RootLens.{placed_cost}
 use Rattle.deploy.proofs.installing.make_version.Goals as goal
 
@@ -184,3 +185,32 @@ returns-clause-places g c = rooted_places g.D.Disk.told c.args.app _ (g.D.Disk.m
 pub returns-clause-written : goal.returns-clause-written
 returns-clause-written g c = both_written _ _ _ _ _ c.in_ok-create_rest.ensures.written
     (placed_cost _ c.args.app _ _ _ c.requires.cell.place c.write_version.ensures.written)
+
+pub returns-in_err-create_rest-clause-last : goal.returns-in_err-create_rest-clause-last
+returns-in_err-create_rest-clause-last g c = last_made g.D.Disk.medium g.D.Disk.told c.args.app _ c.args.disk.now
+    c.create_rest.new.disk (g.met.D.Disk.lawful c.create_rest.new.disk) c.in_err-create_rest.ensures.places
+    c.in_err-create_rest.ensures.written c.in_err-create_rest.ensures.time
+
+pub returns-clause-last : goal.returns-clause-last
+returns-clause-last g c = record {
+  made = c.create_rest.new.disk;
+  storages = c.in_ok-create_rest.ensures.places;
+  costs = c.in_ok-create_rest.ensures.written;
+  before = c.in_ok-create_rest.ensures.time;
+  durable = inl c.in_ok-create_rest.ensures.quiet;
+  root = leaves_writing g.D.Disk.told c.args.app (generation_of c.args.cell + 1)
+      (root_text (text.installed c.args.bank (version_said c.args.version.now)
+      (option_map (λ (v : Bor VersionText). version_said v.now) c.args.previous)))
+      (g.D.Disk.medium c.create_rest.new.disk) (g.D.Disk.medium c.write_version.new.disk)
+      (subst (λ (p : Place). IsTrue g.D.Disk.told → Spares (IsNoSlot p)
+      (g.D.Disk.medium c.create_rest.new.disk).image (g.D.Disk.medium c.write_version.new.disk).image)
+      c.requires.cell.place c.write_version.ensures.elsewhere)
+      (subst (λ (p : Place). IsTrue g.D.Disk.told → Quiet (g.D.Disk.medium c.create_rest.new.disk)
+      → EachCase (PutStops p (generation_of c.args.cell + 1)
+      (root_text (text.installed c.args.bank (version_said c.args.version.now)
+      (option_map (λ (v : Bor VersionText). version_said v.now) c.args.previous)))
+      (g.D.Disk.medium c.create_rest.new.disk).image) (g.D.Disk.medium c.create_rest.new.disk)
+      (g.D.Disk.medium c.write_version.new.disk)) c.requires.cell.place c.write_version.ensures.any_moment);
+  once = placed_cost _ c.args.app _ _ _ c.requires.cell.place c.write_version.ensures.written;
+  after = c.write_version.ensures.time;
+}

@@ -15,6 +15,7 @@ use Rattle.deploy.proofs.OneUpdate.{begins_ready, clause_from, clause_of, is_ref
 use Rattle.deploy.proofs.OneUpdate.{leaves_led, leaves_read, never, never_ok, none_ok, not_ok, of_app, over_root}
 use Rattle.deploy.proofs.OneUpdate.{root_refused, same_error}
 use Rattle.deploy.proofs.OneUpdate.{same_refused, staged_at, updated_not, updated_so, was_offered}
+use Rattle.deploy.proofs.RootLast.{led_last}
 use Rattle.deploy.proofs.updating_whole.update.Goals as goal
 
 -- ---- it does not begin
@@ -468,4 +469,82 @@ returns-in_ok-next-in-Ready-clause-written g c =
           (ap (λ (t : List ℕ). t ∷ root_texts (staged_root c.in-Ready.staged)) text
           ∙ ap (λ (r : Root). c.args.manifest.now ∷ root_texts r) over)
           c.in_ok-begun.ensures.written c.in_ok-next-in-Ready.ensures.written,
+    )
+
+pub returns-in_err-begun-clause-last : goal.returns-in_err-begun-clause-last
+returns-in_err-begun-clause-last g c = inl (record {
+  image = c.in_err-begun.ensures.image;
+  written = c.in_err-begun.ensures.written;
+  idle = c.in_err-begun.ensures.idle;
+})
+
+pub returns-in-Refused-clause-last : goal.returns-in-Refused-clause-last
+returns-in-Refused-clause-last g c = inl (record {
+  image = c.in_ok-begun.ensures.image;
+  written = c.in_ok-begun.ensures.written;
+  idle = c.in_ok-begun.ensures.idle;
+})
+
+pub returns-in_err-next-in-Ready-clause-last : goal.returns-in_err-next-in-Ready-clause-last
+returns-in_err-next-in-Ready-clause-last g c =
+    let same_app = of_app (rules_of c.args.migrations.now) (answers_of c.args.migrations.now) c.args.now
+    (option_map (λ (n : Bor Name). n.now) c.args.busy) c.args.manifest.now c.args.app
+    g.D.Disk.told (g.D.Disk.medium c.args.disk.now) (g.D.Disk.medium c.begin_update.new.disk) c.args.root
+    c.in_ok-begun.begun c.in_ok-begun.ensures.begins c.in_ok-begun.ensures.staged c.in_ok-begun.ensures.image
+    c.in-Ready.staged c.in-Ready.is in
+    let over = over_root (rules_of c.args.migrations.now) (answers_of c.args.migrations.now) c.args.now
+    (option_map (λ (n : Bor Name). n.now) c.args.busy) c.args.manifest.now c.args.app
+    g.D.Disk.told (g.D.Disk.medium c.args.disk.now) (g.D.Disk.medium c.begin_update.new.disk) c.args.root
+    c.in_ok-begun.begun c.in_ok-begun.ensures.begins c.in_ok-begun.ensures.staged c.in_ok-begun.ensures.image
+    c.in-Ready.staged c.in-Ready.is in
+    let at = staged_at (rules_of c.args.migrations.now) (answers_of c.args.migrations.now) c.args.now
+    (option_map (λ (n : Bor Name). n.now) c.args.busy) c.args.manifest.now c.args.app
+    g.D.Disk.told (g.D.Disk.medium c.args.disk.now) (g.D.Disk.medium c.begin_update.new.disk) c.args.root
+    c.in_ok-begun.begun c.in_ok-begun.ensures.begins c.in_ok-begun.ensures.staged c.in_ok-begun.ensures.image
+    c.in-Ready.staged c.in-Ready.is in
+    let ready = begins_ready (rules_of c.args.migrations.now) (answers_of c.args.migrations.now) c.args.now
+    (option_map (λ (n : Bor Name). n.now) c.args.busy) c.args.manifest.now c.args.app
+    g.D.Disk.told (g.D.Disk.medium c.args.disk.now) (g.D.Disk.medium c.begin_update.new.disk) c.args.root
+    c.in_ok-begun.begun c.in_ok-begun.ensures.begins c.in_ok-begun.ensures.staged c.in_ok-begun.ensures.image
+    c.in-Ready.staged c.in-Ready.is in
+    inr (
+      staged_progress c.in-Ready.staged,
+      (c.in_ok-begun.ensures.begins.0, c.in_ok-begun.ensures.begins.1, ready),
+      led_last g.D.Disk.medium g.D.Disk.told c.args.app c.args.root c.args.manifest.now c.in-Ready.staged
+          c.args.disk.now c.begin_update.new.disk c.commit_update.new.disk same_app over
+          (c.in_ok-begun.ensures.text c.in-Ready.staged (ap Ok c.in-Ready.is)) at.memory.offers
+          c.in_ok-begun.ensures.time c.in_ok-begun.ensures.idle c.in_ok-begun.ensures.image
+          c.in_ok-begun.ensures.written c.in_err-next-in-Ready.ensures.last,
+    )
+
+pub returns-in_ok-next-in-Ready-clause-last : goal.returns-in_ok-next-in-Ready-clause-last
+returns-in_ok-next-in-Ready-clause-last g c =
+    let same_app = of_app (rules_of c.args.migrations.now) (answers_of c.args.migrations.now) c.args.now
+    (option_map (λ (n : Bor Name). n.now) c.args.busy) c.args.manifest.now c.args.app
+    g.D.Disk.told (g.D.Disk.medium c.args.disk.now) (g.D.Disk.medium c.begin_update.new.disk) c.args.root
+    c.in_ok-begun.begun c.in_ok-begun.ensures.begins c.in_ok-begun.ensures.staged c.in_ok-begun.ensures.image
+    c.in-Ready.staged c.in-Ready.is in
+    let over = over_root (rules_of c.args.migrations.now) (answers_of c.args.migrations.now) c.args.now
+    (option_map (λ (n : Bor Name). n.now) c.args.busy) c.args.manifest.now c.args.app
+    g.D.Disk.told (g.D.Disk.medium c.args.disk.now) (g.D.Disk.medium c.begin_update.new.disk) c.args.root
+    c.in_ok-begun.begun c.in_ok-begun.ensures.begins c.in_ok-begun.ensures.staged c.in_ok-begun.ensures.image
+    c.in-Ready.staged c.in-Ready.is in
+    let at = staged_at (rules_of c.args.migrations.now) (answers_of c.args.migrations.now) c.args.now
+    (option_map (λ (n : Bor Name). n.now) c.args.busy) c.args.manifest.now c.args.app
+    g.D.Disk.told (g.D.Disk.medium c.args.disk.now) (g.D.Disk.medium c.begin_update.new.disk) c.args.root
+    c.in_ok-begun.begun c.in_ok-begun.ensures.begins c.in_ok-begun.ensures.staged c.in_ok-begun.ensures.image
+    c.in-Ready.staged c.in-Ready.is in
+    let ready = begins_ready (rules_of c.args.migrations.now) (answers_of c.args.migrations.now) c.args.now
+    (option_map (λ (n : Bor Name). n.now) c.args.busy) c.args.manifest.now c.args.app
+    g.D.Disk.told (g.D.Disk.medium c.args.disk.now) (g.D.Disk.medium c.begin_update.new.disk) c.args.root
+    c.in_ok-begun.begun c.in_ok-begun.ensures.begins c.in_ok-begun.ensures.staged c.in_ok-begun.ensures.image
+    c.in-Ready.staged c.in-Ready.is in
+    inr (
+      staged_progress c.in-Ready.staged,
+      (c.in_ok-begun.ensures.begins.0, c.in_ok-begun.ensures.begins.1, ready),
+      led_last g.D.Disk.medium g.D.Disk.told c.args.app c.args.root c.args.manifest.now c.in-Ready.staged
+          c.args.disk.now c.begin_update.new.disk c.commit_update.new.disk same_app over
+          (c.in_ok-begun.ensures.text c.in-Ready.staged (ap Ok c.in-Ready.is)) at.memory.offers
+          c.in_ok-begun.ensures.time c.in_ok-begun.ensures.idle c.in_ok-begun.ensures.image
+          c.in_ok-begun.ensures.written c.in_ok-next-in-Ready.ensures.last,
     )

@@ -12,6 +12,7 @@ use Rattle.deploy.specs.Remaining.{IsBesideCommit}
 use Rattle.deploy.proofs.FirstVersion.{root_written}
 use Rattle.deploy.proofs.MadePlaces.{committed_written}
 use Rattle.deploy.proofs.NextVersion.{leaves_root}
+use Rattle.deploy.proofs.RootLast.{committed_last}
 use Rattle.deploy.proofs.UpdateRow.{held_before, next_committed, says_committed}
 use Rattle.deploy.proofs.updating.Staged.commit_update.Goals as goal
 
@@ -121,3 +122,13 @@ returns-clause-places g c = c.in_ok-cell.ensures.places
 pub returns-clause-written : goal.returns-clause-written
 returns-clause-written g c = committed_written c.args.self c.deref.result.now _ _ c.deref.ensures.value
     c.requires.staged.memory.no_previous c.in_ok-cell.ensures.written
+
+pub returns-in_err-cell-clause-last : goal.returns-in_err-cell-clause-last
+returns-in_err-cell-clause-last g c = committed_last g.D.Disk.medium g.D.Disk.told c.args.self c.deref.result.now
+    c.args.disk.now c.make_version.new.disk c.deref.ensures.value c.requires.staged.memory.no_previous
+    c.in_err-cell.ensures.last
+
+pub returns-clause-last : goal.returns-clause-last
+returns-clause-last g c = committed_last g.D.Disk.medium g.D.Disk.told c.args.self c.deref.result.now
+    c.args.disk.now c.make_version.new.disk c.deref.ensures.value c.requires.staged.memory.no_previous
+    c.in_ok-cell.ensures.last
