@@ -59,32 +59,34 @@ making_from app bank built storages contents manifests = record {
   manifests = manifests;
 }
 
--- The storages come first, and then the root, once: there is a disk in the midst of the calls, or at their end, with
--- which the storages end and the root begins.
+-- The storages come first, and then the root, once: up to some moment of the calls only files of these storages change,
+-- and no more is written than they cost; from it on only slots of the root change, and no more is written than writing it
+-- once costs.
 pub record RootComesLast {D : Type 0} (medium : D → Medium) (told : Bool) (app : ℕ) (making : Making) (old new : D)
     : Type 0 where
+  -- the disk at that moment
   pub made : D
-  -- up to it only files of these storages change, and no more is written than they cost
   pub storages : Leaves told (IsInNone making.shapes) (medium old) (medium made)
   pub costs : (medium made).written ≤ (medium old).written + making.cost
   pub before : Elapses (medium old) (medium made)
   -- what was made is durable before the root is begun, if nothing was pending
   pub durable : (Quiet (medium old) → Quiet (medium made)) ⊎ (new ≡ made)
-  -- from there on only slots of the root change, and no more is written than writing it once costs
   pub root : Leaves told (IsNoRootSlot app) (medium made) (medium new)
   pub once : (medium new).written ≤ (medium made).written + root_cost making.manifests
   pub after : Elapses (medium made) (medium new)
 
--- what each storage of a deployment starts with that is installed at a moment in seconds, where there is one
+-- what each storage of a deployment starts with, installed at a moment in seconds, where there is a deployment
 abbrev pub contents_by : (now : ℕ) → Result DeploymentData PerError → List (List Fresh)
 contents_by now (Ok d) = initial_all now d
 contents_by now (Err e) = []
 
--- the same of the deployment that a manifest says; none where the manifest is refused
+-- what each storage of the deployment that a manifest says starts with, installed at a moment in seconds; nothing where
+-- the manifest is refused
 abbrev pub contents_said : (now : ℕ) → List ℕ → List (List Fresh)
 contents_said now manifest = contents_by now (deployment_of manifest)
 
--- an update over this root may begin so, over some states of its storages, theirs where the disk is modelled
+-- with this in progress an update over this root may begin, over some states of its storages, theirs where the disk is
+-- modelled
 abbrev pub MayBegin : (told : Bool) → (Rows : App → Result InProgress PerError → Type 0) → ℕ → Root → Image
     → InProgress → Type 0
 MayBegin told Rows app root image p = (states : List State) × (IsTrue told → (app_at image app).states ≡ states)
