@@ -60,8 +60,8 @@ making_from app bank built storages contents manifests = record {
 }
 
 -- The storages come first, and then the root, once: up to some moment of the calls only files of these storages change,
--- and no more is written than they cost; from it on only slots of the root change, and no more is written than writing it
--- once costs.
+-- and no more is written than they cost; from it on only slots of the root change, and no more is written than writing
+-- it once costs.
 pub record RootComesLast {D : Type 0} (medium : D → Medium) (told : Bool) (app : ℕ) (making : Making) (old new : D)
     : Type 0 where
   -- the disk at that moment
