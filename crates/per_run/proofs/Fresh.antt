@@ -73,6 +73,13 @@ formats_on old middle new roots written alone started already = record {
       omega (arith, written, same);
 }
 
+-- so the disk is the formatted one
+pub formatted_still : (middle : Medium) (new : DiskBytes) → world_at middle.image ≡ formatted
+    → AreRootsAlone middle.image → (AllNeedNothing middle.image → new ≡ bytes_now middle)
+    → world_at new.image ≡ formatted
+formatted_still middle new world alone already = ap (λ (b : DiskBytes). world_at b.image)
+    (already (λ app lt. inl (alone app lt))) ∙ world
+
 -- one that was looked for first
 pub formats_later : (old middle new : Medium) → OnlyReads old middle
     → FormatsWithin (bytes_now middle) (bytes_now new) → FormatsWithin (bytes_now old) (bytes_now new)
@@ -142,6 +149,7 @@ generates_none told converters n status now old new is later failed formats = re
     held = λ done. refl;
     left = inl refl;
   };
+  stands = λ tells begun. absurd (not_begun is begun);
   settled = λ tells done. absurd (not_done status is done);
   unbegun = λ open_end. (refl, formats);
   clean = λ tells begun. absurd (not_begun is begun);
@@ -221,6 +229,8 @@ generates_short told rules answers n now memory old middle begun new b course = 
         (without_sink course.lines (generated n) course.turns) (side tells).begun (bytes_now new)) (here tells)
         (left_by _ (after_start (world_at middle.image)) _ _ (side tells).progress);
   };
+  stands = λ tells started. formatted_still middle (side tells).begun (b.world tells) (b.alone tells)
+      (side tells).starts.already;
   settled = λ tells done. absurd (not_done 4 (inr refl) done);
   unbegun = λ open_end. absurd (open_end tt);
   clean = λ tells started app lt. (side tells).clean app lt (b.clean tells app lt);
@@ -284,6 +294,9 @@ generates_all told rules answers n status before now memory after tally old midd
             held = λ done. g.2.held;
             left = inl g.2.held;
           };
+      stands = λ tells started.
+          let g : IsGoing rules answers middle counted.turns after new = counted.goes.disk tells in
+          formatted_still middle g.2.begun (b.world tells) (b.alone tells) g.2.starts.already;
       settled = λ tells done.
           let g : IsGoing rules answers middle counted.turns after new = counted.goes.disk tells in
           subst (λ (w : World). IsSettled (last_of w (worlds_of counted.turns)) new) (here tells)
