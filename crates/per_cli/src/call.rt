@@ -6,7 +6,7 @@
 
 ghost use Rattle.std.specs.Prelude.{◌≤◌, length};
 
-use crate::causes::none_of_these;
+use crate::causes::{dashed_folder, none_of_these};
 use crate::saying::{Screen, say, say_awaited};
 use crate::{NO_DISK, NO_INPUT, REFUSED_CALL, REFUSED_WORDS, program};
 use command_text::LineError;
@@ -162,7 +162,7 @@ fn say_refused<R: Screen>(
     words: &[String],
     named: &[&[u8]],
 ) -> io::Result<()> {
-    if let Some(why) = unknown_option(alloc, words)? {
+    if let Some(why) = wrong_option(alloc, words)? {
         return say_why(rt, alloc, why.as_str());
     }
     match why_refused(alloc, named) {
@@ -176,9 +176,12 @@ fn say_why<R: Screen>(rt: &R, alloc: Global, why: &str) -> io::Result<()> {
     say(rt, alloc, line)
 }
 
-/// Which option is none of a run, where one is.
-fn unknown_option(alloc: Global, words: &[String]) -> Result<Option<String>, AllocError> {
+/// Which option is none of a run, or names a folder that begins with a dash, where one does.
+fn wrong_option(alloc: Global, words: &[String]) -> Result<Option<String>, AllocError> {
     let options = options_in(alloc, words)?;
+    if let Some(why) = dashed_folder(alloc, options.as_slice())? {
+        return Ok(Some(why));
+    }
     match unknown_in(options.as_slice()) {
         Some(word) => none_of_these(alloc, word),
         None => Ok(None),

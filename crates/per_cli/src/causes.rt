@@ -4,7 +4,7 @@
 use crate::saying::{Screen, say as say_line, say_command, typed_option};
 use per_reasons::{dots_after, text_shown};
 use per_run::{WordsError, read_words};
-use per_words::{is_line_word, unknown_in};
+use per_words::{is_line_word, options_in, unknown_in};
 use std::alloc::{AllocError, Global};
 use std::rt::Files;
 use std::{fmt, fs, io};
@@ -181,16 +181,19 @@ fn say_usage<R: Screen>(rt: &R, alloc: Global, words: &[String]) -> io::Result<(
     rt.eprintln(USAGE)
 }
 
-/// What is wrong with the arguments of a run: one is none of these, a value is none of its option, the folder is not
-/// named, or two do not stand together.
+/// What is wrong with the arguments of a run: the folder begins with a dash, one is none of these, a value is none of
+/// its option, the folder is not named, or two do not stand together.
 fn wrong_words(alloc: Global, words: &[String]) -> Result<Option<String>, AllocError> {
+    let options = options_in(alloc, words)?;
+    if let Some(why) = dashed_folder(alloc, options.as_slice())? {
+        return Ok(Some(why));
+    }
     if let Some(word) = unknown_in(words) {
         return none_of_these(alloc, word);
     }
     for (option, takes) in VALUES.iter() {
         if has_wrong_value(alloc, words, option)? {
-            let hint = dashed_folder(alloc, words)?;
-            return Ok(Some(format!(in alloc; "{option} takes {takes}{hint}")?));
+            return Ok(Some(format!(in alloc; "{option} takes {takes}")?));
         }
     }
     let why = if words.iter().any(|word| is_option(word, "--dir")) {
@@ -201,18 +204,23 @@ fn wrong_words(alloc: Global, words: &[String]) -> Result<Option<String>, AllocE
     Ok(Some(String::from_str(alloc, why)?))
 }
 
-/// How a folder is typed whose name begins with a dash, where it stands after its option; nothing where none does.
-fn dashed_folder(alloc: Global, words: &[String]) -> Result<String, AllocError> {
-    for pair in words.windows(2) {
+/// How a folder is typed whose name begins with a dash, where one stands after its option.
+pub(crate) fn dashed_folder(
+    alloc: Global,
+    options: &[String],
+) -> Result<Option<String>, AllocError> {
+    for pair in options.windows(2) {
         match pair {
             [option, dir] if option.as_str() == "--dir" && is_dashed(dir) => {
                 let typed = typed_option(alloc, dir.as_str())?;
-                return format!(in alloc; ", and one that begins with a dash as {typed}");
+                return Ok(Some(format!(in alloc;
+                    "--dir takes a folder, and one that begins with a dash as {typed}"
+                )?));
             }
             _ => {}
         }
     }
-    Ok(String::new(alloc))
+    Ok(None)
 }
 
 fn is_dashed(word: &String) -> bool {

@@ -1,7 +1,7 @@
 //! A first session, shown whole.
 
 use crate::causes::say_stream;
-use crate::saying::{Screen, say, typed};
+use crate::saying::{Screen, say, say_command, typed};
 use crate::{NO_OUTPUT, program};
 use std::alloc::{AllocError, Global};
 use std::cell::Cell;
@@ -103,21 +103,32 @@ fn shown<R: Files<File = File> + AllocGlobal + Env + Print + Screen>(
         let _ = say(rt, rt.alloc(), line);
         return Ok(NO_FOLDER);
     }
-    let ran = runs(rt, dir.as_str());
-    if ran.is_err() {
-        // A folder with files in it stays.
-        let _ = fs::remove_dir(rt, dir.as_str());
-    }
-    let status = ran?;
-    // A run that the output failed has said so.
-    if status != NO_OUTPUT {
-        let word = typed(rt.alloc(), dir.as_str())?;
-        println!(rt; "The folder stays: rm -r {word}")?;
-    }
+    let status = match runs(rt, dir.as_str()) {
+        Ok(status) if status != NO_OUTPUT => return Ok(status),
+        // A run that the output failed has said so.
+        Ok(status) => status,
+        Err(error) => not_shown(rt, rt.alloc(), error),
+    };
+    let _ = leave(rt, rt.alloc(), dir.as_str());
     Ok(status)
 }
 
-/// The runs of the session up to the first that fails. Gives the status of the run that ended last.
+/// Removes the folder of a session that was not shown to its end. One with files in it stays, which is said.
+fn leave<R: Files + Screen>(rt: &R, alloc: Global, dir: &str) -> io::Result<()> {
+    if fs::remove_dir(rt, dir).is_ok() {
+        return Ok(());
+    }
+    let word = typed(alloc, dir)?;
+    say_command(
+        rt,
+        alloc,
+        dir,
+        format!(in alloc; "per: the folder stays: rm -r {word}"),
+    )
+}
+
+/// The runs of the session up to the first that fails, and where its folder is. Gives the status of the run that ended
+/// last.
 fn runs<R: Files<File = File> + AllocGlobal + Print + Screen>(rt: &R, dir: &str) -> io::Result<u8> {
     let mut status = run(rt, dir, true, &[])?;
     if status == 0 {
@@ -125,6 +136,10 @@ fn runs<R: Files<File = File> + AllocGlobal + Print + Screen>(rt: &R, dir: &str)
     }
     if status == 0 {
         status = run(rt, dir, false, &SECOND_RUN)?;
+    }
+    if status != NO_OUTPUT {
+        let word = typed(rt.alloc(), dir)?;
+        println!(rt; "The folder stays: rm -r {word}")?;
     }
     Ok(status)
 }

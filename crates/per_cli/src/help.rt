@@ -247,7 +247,8 @@ const STATUS: &str = "Status
   3 the disk failed while the program started or formatted, in an audit, a
     listing, an export, an import, a recovery, a dump or a restore, or in a call
     by itself; or another run holds the folder; or --serve or install found
-    nothing but other files in it; or there is no folder to list
+    nothing but other files in it; or there is no folder to list, or none can be
+    made for the demo
   4 memory ran out
   5 the input failed, or the file that a call by itself or a restore takes
   6 the output failed

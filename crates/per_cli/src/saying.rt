@@ -1,6 +1,7 @@
-//! What is said on standard error: lines, which are broken between their words where a screen shows them.
+//! What is said on standard error: lines, which are broken between their words where a screen shows them. Whatever an
+//! argument or a text has, no line that is said begins a row within it or moves the cursor.
 
-use per_words::{broken, dir_option, quoted};
+use per_words::{are_visible, broken, dir_option, quoted, visible};
 use std::alloc::{AllocError, Global};
 use std::io::{self, IsTerminal};
 
@@ -30,8 +31,11 @@ pub(crate) fn say_awaited<R: Screen>(rt: &R, line: &str) {
     }
 }
 
-/// The name of a folder as it is typed in a shell.
+/// The name of a folder as it is typed in a shell; `DIR` for one that no screen shows.
 pub(crate) fn typed(alloc: Global, dir: &str) -> Result<String, AllocError> {
+    if !are_visible(dir) {
+        return String::from_str(alloc, "DIR");
+    }
     let word = quoted(alloc, dir.as_bytes())?;
     match str::from_utf8(word.as_slice()) {
         Ok(word) => String::from_str(alloc, word),
@@ -41,6 +45,9 @@ pub(crate) fn typed(alloc: Global, dir: &str) -> Result<String, AllocError> {
 
 /// The option that names a folder, as it is typed in a shell.
 pub(crate) fn typed_option(alloc: Global, dir: &str) -> Result<String, AllocError> {
+    if !are_visible(dir) {
+        return String::from_str(alloc, "--dir=DIR");
+    }
     let option = dir_option(alloc, dir.as_bytes())?;
     match str::from_utf8(option.as_slice()) {
         Ok(option) => String::from_str(alloc, option),
@@ -56,10 +63,7 @@ pub(crate) fn say_command<R: Screen>(
     dir: &str,
     line: Result<String, AllocError>,
 ) -> io::Result<()> {
-    if dir.as_bytes().contains(&b' ') {
-        return rt.eprintln(line?.as_str());
-    }
-    say(rt, alloc, line)
+    say_rows(rt, alloc, line, dir.as_bytes().contains(&b' '))
 }
 
 /// Says a line, if there was memory for it.
@@ -68,8 +72,18 @@ pub(crate) fn say<R: Screen>(
     alloc: Global,
     line: Result<String, AllocError>,
 ) -> io::Result<()> {
-    let line = line?;
-    if !rt.has_screen() {
+    say_rows(rt, alloc, line, false)
+}
+
+/// Says a line, in one row or in as many as a screen needs.
+fn say_rows<R: Screen>(
+    rt: &R,
+    alloc: Global,
+    line: Result<String, AllocError>,
+    is_one_row: bool,
+) -> io::Result<()> {
+    let line = visible(alloc, line?.as_str())?;
+    if is_one_row || !rt.has_screen() {
         return rt.eprintln(line.as_str());
     }
     let rows = broken(alloc, line.as_bytes())?;

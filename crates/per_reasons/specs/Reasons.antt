@@ -1,8 +1,7 @@
 -- Why a line was refused, in words.
-use Rattle.std.specs.Prelude.{◌≡◌, ◌-◌, ⊤, ℕ, List, [], ◌∷◌, ◌++◌, codes, drop, take, Bool, true, not, ◌&&◌}
-use Rattle.std.specs.Prelude.{nat_eq, nat_le, nat_lt, if◌then◌else◌}
-use Rattle.std.specs.Prelude.{Option, Some, None, option_map}
-use Rattle.std.specs.List.{ends_with, list_all}
+use Rattle.std.specs.Prelude.{◌≡◌, ◌-◌, ⊤, ℕ, List, [], ◌∷◌, ◌++◌, codes, drop, take, true, ◌&&◌, nat_eq, nat_lt}
+use Rattle.std.specs.Prelude.{if◌then◌else◌, Option, Some, None, option_map}
+use Rattle.std.specs.List.{ends_with}
 use Rattle.std.specs.Fmt.{decimal}
 use Rattle.std.specs.Str.{IsUtf8}
 use Rattle.per_words.specs.Flaws.{after_space, flaw_in, has_space, leading_length, leading_word, takes_text}
@@ -10,6 +9,7 @@ use Rattle.per_words.specs.declared.flaws.Flaw.{Flaw}
 use Rattle.per_words.specs.declared.needs.Needed.{Needed}
 use Rattle.per_words.specs.declared.needs.Needed.TheVariants as needed
 use Rattle.per_words.specs.Numbers.{leading_number}
+use Rattle.per_words.specs.Screens.{are_visible}
 use Rattle.per_reasons.specs.Numbers.{needed_digits, needed_number, needed_value}
 
 -- ---- a text that is no line
@@ -67,13 +67,9 @@ word_shown text = take (shown_length text) text
 abbrev pub dots_after : List ℕ → List ℕ
 dots_after text = if nat_lt 60 (leading_length text) then codes ".." else []
 
--- the byte is no control character of ASCII, which are those before the space (32), and 127
-abbrev pub is_visible : ℕ → Bool
-is_visible byte = nat_le 32 byte && not (nat_eq byte 127)
-
--- the word is shown: a text without control characters, which would begin a row or move the cursor
+-- the word is shown: a text without characters that would begin a row or move the cursor
 abbrev pub IsShown : List ℕ → Type 0
-IsShown word = IsUtf8 word × (list_all is_visible word ≡ true)
+IsShown word = IsUtf8 word × (are_visible word ≡ true)
 
 -- what is needed in place of this word, of which no more is shown
 abbrev pub IsNeededText : (word dots needed text : List ℕ) → Type 0

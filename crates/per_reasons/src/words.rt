@@ -1,9 +1,10 @@
 //! The words of a line.
 
 ghost use Rattle.std.specs.Prelude.{◌≡◌, ◌≤◌, IfNone, IfSome, false, length, true};
-ghost use Rattle.std.specs.List.{list_all};
 ghost use Rattle.per_words.specs.Flaws.{after_space, has_space, leading_length, leading_word};
-ghost use Rattle.per_reasons.specs.Reasons.{IsShown, dots_after, is_visible, shown_length, word_shown};
+ghost use Rattle.per_reasons.specs.Reasons.{IsShown, dots_after, shown_length, word_shown};
+
+use per_words::are_visible;
 
 /// How many bytes of a word are shown at most.
 const SHOWN_BYTES: usize = 60;
@@ -37,7 +38,7 @@ fn leading_length(text: &[u8]) -> usize
 }
 
 /// The first word of a text, as far as a refusal shows it: at most its first 60 bytes; none where they are no text, or
-/// have a control character.
+/// a character in them would begin a row or move the cursor.
 pub fn text_shown(text: &[u8]) -> Option<&str>
     ensures found { IfSome result (λ word. IsShown (word_shown text.now) × (word.now ≡ word_shown text.now)) }
     ensures none { IfNone result (¬ (IsShown (word_shown text.now))) }
@@ -50,26 +51,10 @@ pub(crate) fn shown(word: &[u8]) -> Option<&str>
     ensures found { IfSome result (λ text. IsShown word.now × (text.now ≡ word.now)) }
     ensures none { IfNone result (¬ (IsShown word.now)) }
 {
-    if !are_visible(word) {
-        return None;
-    }
     match str::from_utf8(word) {
-        Ok(text) => Some(text),
-        Err(_) => None,
+        Ok(text) if are_visible(text) => Some(text),
+        Ok(_) | Err(_) => None,
     }
-}
-
-fn are_visible(word: &[u8]) -> bool
-    ensures { result ≡ list_all is_visible word.now }
-{
-    word.iter().all(|byte| is_visible(*byte))
-}
-
-/// Whether the byte is no control character.
-fn is_visible(byte: u8) -> bool
-    ensures { result ≡ is_visible byte }
-{
-    byte >= b' ' && byte != 127
 }
 
 /// The first word of a text, as far as it may be shown: at most its first 60 bytes.

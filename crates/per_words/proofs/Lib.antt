@@ -3,4 +3,5 @@ pub mod Events
 pub mod Named
 pub mod Pieces
 pub mod Rows
+pub mod Seen
 pub mod Written

@@ -1,5 +1,9 @@
 -- A text on a screen of 80 columns.
-use Rattle.std.specs.Prelude.{◌+◌, ℕ, suc, List, [], ◌∷◌, ◌++◌, codes, Bool, ◌&&◌, nat_eq, nat_lt, if◌then◌else◌}
+use Rattle.std.specs.Prelude.{◌+◌, ℕ, suc, List, [], ◌∷◌, ◌++◌, chars, codes, encode_utf8, flat_map, Bool, false, not}
+use Rattle.std.specs.Prelude.{◌&&◌, ◌||◌, nat_eq, nat_lt, if◌then◌else◌}
+use Rattle.std.specs.Char.{is_control}
+use Rattle.std.specs.Fmt.{digits}
+use Rattle.std.specs.List.{list_all}
 use Rattle.per_words.specs.Flaws.{leading_length}
 
 -- a row ends at this byte, before this text: it is a space, and with it the word after it passes the last column
@@ -20,3 +24,20 @@ abbrev pub broken : (column : ℕ) → List ℕ → List ℕ
 broken column [] = []
 broken column (byte ∷ text) = piece (breaks column byte text) byte
     ++ broken (next_column column (breaks column byte text)) text
+
+-- the character would neither begin a row nor move the cursor: it is no control character, of ASCII or from U+0080 to
+-- U+009F, and separates neither lines nor paragraphs (U+2028, U+2029)
+abbrev pub is_visible : ℕ → Bool
+is_visible c = not (is_control c || (nat_eq c 0x2028 || nat_eq c 0x2029))
+
+-- no character of the text would begin a row or move the cursor
+abbrev pub are_visible : List ℕ → Bool
+are_visible text = list_all is_visible (chars text)
+
+-- what stands for a character: itself, or its number in hexadecimal digits
+abbrev pub visible_char : ℕ → List ℕ
+visible_char c = if is_visible c then encode_utf8 c else codes "\\u{" ++ (digits 16 false c ++ codes "}")
+
+-- the text with the number of each character that would begin a row or move the cursor in its place
+abbrev pub visible : List ℕ → List ℕ
+visible text = flat_map visible_char (chars text)

@@ -9,8 +9,9 @@
 //! The words of a shell are told apart by [`options_in`] and [`named_words`]; [`unknown_in`] finds one that is refused,
 //! and [`asks_for`] one that goes before all others. [`quoted`] is a word as a shell reads it back, and [`dir_option`]
 //! the option that names a folder. [`flaw_in`] says where a text stops being a line, also within a value.
-//! For a screen [`broken`] breaks a text between its words. At a terminal [`call_shown`] is what a prompt shows, and
-//! [`rows_of`] the rows of a help of which a line asks ([`help_asked`]).
+//! For a screen [`broken`] breaks a text between its words, and [`visible`] has a number in the place of each character
+//! that would begin a row or move the cursor; [`are_visible`] says that there is none. At a terminal [`call_shown`] is
+//! what a prompt shows, and [`rows_of`] the rows of a help of which a line asks ([`help_asked`]).
 #![tactic(auto)]
 
 mod call_text;
@@ -38,6 +39,6 @@ pub use numbers::{ValuePlace, leading_number};
 pub use prompting::{call_shown, column_after, help_asked, is_line_word, row_word, rows_of};
 pub use putting::{PIECE_BYTES, content_lines};
 pub use quoting::{dir_option, quoted};
-pub use screens::broken;
+pub use screens::{are_visible, broken, visible};
 pub use showing::{Shown, shown_bytes, shown_in};
 pub use words::{WordRole, asks_for, named_words, options_in, unknown_in};

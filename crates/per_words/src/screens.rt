@@ -1,7 +1,8 @@
 //! A text on a screen.
 
-ghost use Rattle.std.specs.Prelude.{◌≡◌, ◌<◌, ◌+◌, ◌++◌, IfOk, OnOk, drop, length};
-ghost use Rattle.per_words.specs.Screens.{breaks, broken, next_column, piece};
+ghost use Rattle.std.specs.Prelude.{◌≡◌, ◌<◌, ◌+◌, ◌++◌, IfOk, OnOk, drop, length, string_bytes};
+ghost use Rattle.per_words.specs.Screens.{are_visible, breaks, broken, is_visible, next_column, piece, visible};
+ghost use Rattle.per_words.specs.Screens.{visible_char};
 
 use crate::flaws::leading_length;
 use std::alloc::{AllocError, Global};
@@ -63,4 +64,45 @@ fn next_column(column: usize, is_break: bool) -> usize
     } else {
         column
     }
+}
+
+/// Whether no character of the text would begin a row or move the cursor.
+pub fn are_visible(text: &str) -> bool
+    ensures { result ≡ are_visible text.now }
+{
+    for c in text.chars() {
+        if !is_visible(c) {
+            return false;
+        }
+    }
+    true
+}
+
+/// The text with the number of each character that would do so in its place, as `\u{1b}`.
+pub fn visible(alloc: Global, text: &str) -> Result<String, AllocError>
+    ensures { IfOk result (λ shown. string_bytes shown ≡ visible text.now) }
+{
+    let mut shown = String::new(alloc);
+    for c in text.chars() {
+        push_visible(alloc, &mut shown, c)?;
+    }
+    Ok(shown)
+}
+
+/// Appends the character, or its number.
+fn push_visible(alloc: Global, text: &mut String, c: char) -> Result<(), AllocError>
+    ensures { OnOk result (string_bytes text.new ≡ string_bytes text.old ++ visible_char c) }
+{
+    if is_visible(c) {
+        return text.push(c);
+    }
+    let number = format!(in alloc; "\\u{{{:x}}}", c as u32)?;
+    text.push_str(number.as_str())
+}
+
+/// Whether the character would neither begin a row nor move the cursor.
+fn is_visible(c: char) -> bool
+    ensures { result ≡ is_visible c }
+{
+    !(c.is_control() || c == '\u{2028}' || c == '\u{2029}')
 }
