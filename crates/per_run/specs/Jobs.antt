@@ -177,7 +177,7 @@ pub record Generates (told : Bool) (converters : Converters) (n status : ℕ) (b
   pub follow : IsTrue told → Follow converters.rules converters.answers formatted turns
   pub bounded : IsTrue told → IsGeneratedWithin converters (without_sink lines (generated n) turns)
       (CameToOutput status) before.disk after.disk
-  -- the first command met the disk as it was formatted
+  -- the bytes from which the first command is counted denote the formatted applications
   pub stands : (tells : IsTrue told) → HasStarted ending → world_at (bounded tells).begun.image ≡ formatted
   pub settled : IsTrue told → CameToOutput status → IsSettled (last_of formatted (worlds_of turns)) after.disk
   -- where the start did not end no line was handled, and no more was done than the formatting and the start
