@@ -7,6 +7,7 @@ use Rattle.std.specs.Str.{bytes_eq}
 use Rattle.std.proofs.lemmas.List.{length_push}
 use Rattle.sha2.specs.Sha256.{sha256}
 use Rattle.sha2.specs.declared.Sha256.{Sha256}
+use Rattle.disk_model.specs.Image.{Image}
 use Rattle.disk_model.specs.Place.{area}
 use Rattle.disk_model.specs.declared.place.Place.{Place}
 use Rattle.disk_model.specs.Medium.{Medium, Elapses, OnlyReads}
@@ -40,6 +41,12 @@ hashed : (file blocks : List ℕ) (len : ℕ) (hash : List ℕ)
 unfolding counting
 hashed file blocks len hash = hashed_by (joined file blocks len) hash
     (bytes_eq (sha256 (joined file blocks len)) hash) refl
+
+first_hashed : (place : Place) (n : ℕ) (blocks : List ℕ) (len : ℕ) (hash : List ℕ) (image : Image)
+    → IfSome (first_content (contents_of place n blocks len hash image)) (λ t. bytes_eq (sha256 t) hash ≡ true)
+first_hashed place n blocks len hash image =
+    first_of (λ t. bytes_eq (sha256 t) hash ≡ true) (λ c. counting (image (area place c)) blocks len hash)
+    (λ c. hashed (image (area place c)) blocks len hash) (range_with_len 0 n)
 
 -- ---- a copy that has the bytes of the first that counts
 
@@ -119,22 +126,14 @@ module _ (told : Bool) (place : Place) (blocks : List ℕ) (len : ℕ) (hash : L
       states = states;
     }
 
-    first_long : IfSome (first_content given) (λ t. length t ≡ min len (256 * length blocks))
-    first_long = first_size (min len (256 * length blocks)) given (first_content given) refl looked.size
-
     -- a copy that has the bytes of the first that counts
     pub looked_first : (IsTrue told → IsSomeAnd (first_content given)
         (λ t. joined (old.image (area place i)) blocks (length t) ≡ t))
         → IsLooked told place (i + 1) blocks len hash old now (given ++ first_content given ∷ []) kept
-    looked_first same = looked_more (first_content given) kept
-        (λ tells. counting_first (first_content given) (old.image (area place i)) blocks len hash (same tells) first_long
-        (counts tells))
-        first_long (first_stays given kept looked.states)
-      where
-        P : List ℕ → Type 0
-        P t = bytes_eq (sha256 t) hash ≡ true
-
-        counts : IsTrue told → IfSome (first_content given) P
-        counts tells = subst (λ (xs : List (Option (List ℕ))). IfSome (first_content xs) P) (sym (looked.texts tells))
-            (first_of P (λ c. counting (old.image (area place c)) blocks len hash)
-            (λ c. hashed (old.image (area place c)) blocks len hash) (range_with_len 0 i))
+    looked_first same =
+        let long = first_size (min len (256 * length blocks)) given (first_content given) refl looked.size in
+        looked_more (first_content given) kept
+        (λ tells. counting_first (first_content given) (old.image (area place i)) blocks len hash (same tells) long
+        (subst (λ (xs : List (Option (List ℕ))). IfSome (first_content xs) (λ t. bytes_eq (sha256 t) hash ≡ true))
+        (sym (looked.texts tells)) (first_hashed place i blocks len hash old.image)))
+        long (first_stays given kept looked.states)
