@@ -4,4 +4,5 @@ pub mod Named
 pub mod Pieces
 pub mod Rows
 pub mod Seen
+pub mod Spelled
 pub mod Written

@@ -1,7 +1,8 @@
 //! The lines of a call as a text that is given part by part.
 
-ghost use Rattle.std.specs.Prelude.{◌≡◌, ◌++◌, ◌∷◌, [], OnOk, OnErr, IfOk, codes, map};
-ghost use Rattle.per_words.specs.Words.{fed_lines, line_with, piece_line};
+ghost use Rattle.std.specs.Prelude.{◌≡◌, ◌+◌, ◌*◌, ◌++◌, ◌∷◌, [], OnOk, OnErr, IfOk, length, map, take};
+ghost use Rattle.value_text.specs.Texts.{hex_text};
+ghost use Rattle.per_words.specs.Words.{fed_lines, piece_line};
 
 use crate::pushing::push_words;
 use std::alloc::{AllocError, Global};
@@ -23,8 +24,8 @@ pub struct CallText {
     storage: Vec<u8>,
     /// Pieces whose lines are given then.
     pieces: VecDeque<Vec<u8>>,
-    /// Room for the digits of a piece.
-    digits: Vec<u8>,
+    /// How many digits the longest of them has.
+    longest: usize,
     /// Lines that are given last.
     last: Vec<u8>,
 }
@@ -50,7 +51,7 @@ impl CallText {
             digit: b'0',
             storage: Vec::new(alloc),
             pieces: VecDeque::new(alloc),
-            digits: Vec::new(alloc),
+            longest: 0,
             last: Vec::new(alloc),
         }
     }
@@ -69,13 +70,13 @@ impl CallText {
             ++ last.items)) }
     {
         let storage = Vec::from_slice(alloc, storage)?;
-        let digits = Vec::with_capacity(alloc, digits_in(pieces.as_slice()))?;
+        let longest = digits_in(pieces.as_slice());
         Ok(CallText {
             first,
             digit,
             storage,
             pieces: VecDeque::from_vec(pieces),
-            digits,
+            longest,
             last,
         })
     }
@@ -83,8 +84,7 @@ impl CallText {
     /// How many bytes a part has at most. With room for them in the buffer, none takes more memory.
     pub fn part_bytes(&self) -> usize {
         let written = self
-            .digits
-            .capacity()
+            .longest
             .saturating_add(self.storage.len())
             .saturating_add(WORD_BYTES);
         written.max(self.first.len()).max(self.last.len())
@@ -107,13 +107,9 @@ impl CallText {
             return move_lines(&mut self.first, part);
         }
         match self.pieces.front() {
-            Some(piece) => push_written(
-                &mut self.digits,
-                part,
-                self.digit,
-                self.storage.as_slice(),
-                piece.as_slice(),
-            )?,
+            Some(piece) => {
+                push_written(part, self.digit, self.storage.as_slice(), piece.as_slice())?
+            }
             None => return move_lines(&mut self.last, part),
         }
         drop(self.pieces.pop_front());
@@ -143,7 +139,6 @@ fn move_lines(lines: &mut Vec<u8>, to: &mut Vec<u8>) -> Result<(), AllocError>
 
 /// Adds the line that writes this piece.
 fn push_written(
-    digits: &mut Vec<u8>,
     text: &mut Vec<u8>,
     digit: u8,
     storage: &[u8],
@@ -151,24 +146,30 @@ fn push_written(
 ) -> Result<(), AllocError>
     ensures { OnOk result (text.new.items ≡ text.old.items ++ piece_line digit storage.now piece.now ++ 10 ∷ []) }
 {
-    digits.clear();
-    digits.resize(2 * piece.len(), 0)?;
-    spell_hex(digits.as_mut_slice(), piece);
-    push_write(text, digit, storage, digits.as_slice())
-}
-
-/// Adds the line that writes what has these digits.
-fn push_write(
-    text: &mut Vec<u8>,
-    digit: u8,
-    storage: &[u8],
-    digits: &[u8],
-) -> Result<(), AllocError>
-    ensures { OnOk result (text.new.items ≡ text.old.items
-        ++ line_with digit (codes "write" ∷ storage.now ∷ codes "1" ∷ digits.now ∷ []) ++ 10 ∷ []) }
-{
     text.push(digit)?;
-    push_words(text, &[b"write", storage, b"1", digits])?;
+    push_words(text, &[b"write", storage, b"1"])?;
+    text.push(b' ')?;
+    push_spelled(text, piece)?;
     text.push(b'\n')?;
     Ok(())
+}
+
+/// Adds bytes in two digits each, which are spelled where they stand: the bytes themselves, twice, hold their place.
+#[tactic(auto, using(crate::proofs::Spelled::front))]
+fn push_spelled(text: &mut Vec<u8>, bytes: &[u8]) -> Result<(), AllocError>
+    ensures { OnOk result (text.new.items ≡ text.old.items ++ hex_text bytes.now) }
+{
+    let from = text.len();
+    text.extend_from_slice(bytes)?;
+    text.extend_from_slice(bytes)?;
+    spell_from(text.as_mut_slice(), from, bytes);
+    Ok(())
+}
+
+/// Spells bytes in two digits each, from this place to the end.
+fn spell_from(text: &mut [u8], from: usize, bytes: &[u8])
+    requires { length text.old ≡ from + 2 * length bytes.now }
+    ensures { text.new ≡ take from text.old ++ hex_text bytes.now }
+{
+    spell_hex(&mut text[from..], bytes);
 }

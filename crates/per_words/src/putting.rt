@@ -21,7 +21,7 @@ use std::alloc::{AllocError, Global};
 use value_text::push_hex;
 
 /// The longest piece of a content: a line that writes it is within what a run reads at once.
-pub const PIECE_BYTES: usize = 32_000;
+pub const PIECE_BYTES: usize = 16_000;
 
 /// The lines that make these pieces, joined, the content of the file, which is created where it is not there. A content
 /// of one piece is put at once; of others each piece is a line, and they become durable with the last line alone.
