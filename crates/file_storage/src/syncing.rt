@@ -230,7 +230,7 @@ impl Files {
                 table,
             }),
             Err(Fault::Device) => Err(Fault::Device),
-            Err(Fault::OutOfMemory((store, ()))) => Err(Fault::OutOfMemory(Files {
+            Err(Fault::OutOfMemory((store, _, ()))) => Err(Fault::OutOfMemory(Files {
                 alloc,
                 config,
                 store,
@@ -293,7 +293,7 @@ impl Files {
         match store.commit(disk, changes, table) {
             Ok(_) => Ok(()),
             Err(Fault::Device) => Err(Fault::Device),
-            Err(Fault::OutOfMemory((store, table))) => Err(Fault::OutOfMemory(Files {
+            Err(Fault::OutOfMemory((store, _, table))) => Err(Fault::OutOfMemory(Files {
                 alloc,
                 config,
                 store,
