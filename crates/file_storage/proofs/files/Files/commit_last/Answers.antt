@@ -1,10 +1,14 @@
-use Rattle.std.proofs.Common.{◌≡◌, ◌<◌, [], sym, subst}
+use Rattle.std.proofs.Common.{◌≡◌, ◌<◌, [], sym, ◌∙◌, ap, subst}
 use Rattle.std.specs.Prelude.{false, map}
 use Rattle.deployment_model.specs.Data.{storage_data}
 use Rattle.element_state.specs.States.{Opens, greatest_generation}
 use Rattle.element_maps.specs.Storages.{IsStoring}
 use Rattle.element_store.specs.Stores.{store_shape, view_in}
+use Rattle.element_store.specs.declared.store.Store.{Store}
+use Rattle.file_handles.specs.Lending.{taken_back}
 use Rattle.file_handles.specs.Tables.{IsTable, Table}
+use Rattle.per_base.specs.Faults.{HandsBack}
+use Rattle.per_base.specs.declared.faults.Fault.TheVariants.{OutOfMemory}
 use Rattle.file_storage.specs.FileSessions.{AreAsStored, FilesInUse, storage_of, stored_in}
 use Rattle.file_storage.specs.Syncs.{IsSynced, WritesAtMost, due_changes, is_synced, synced_view}
 use Rattle.file_storage.specs.Walks.{bare}
@@ -12,12 +16,12 @@ use Rattle.file_storage.proofs.Bare.{last_sync, lendable}
 use Rattle.file_storage.proofs.Synced.{commit_at_most, commit_storing, commit_synced}
 use Rattle.file_storage.proofs.files.Files.commit_last.Goals as goal
 
-pub lend-changes-requires-clause-free : goal.lend-changes-requires-clause-free
-lend-changes-requires-clause-free g c = subst (λ (s : FilesInUse). s.session.handles ≡ []) (sym c.self.view_is)
+pub lend-requires-clause-free : goal.lend-requires-clause-free
+lend-requires-clause-free g c = subst (λ (s : FilesInUse). s.session.handles ≡ []) (sym c.self.view_is)
     c.requires.free
 
-pub lend-changes-requires-clause-ascend : goal.lend-changes-requires-clause-ascend
-lend-changes-requires-clause-ascend g c =
+pub lend-requires-clause-ascend : goal.lend-requires-clause-ascend
+lend-requires-clause-ascend g c =
     let table = subst (λ (s : FilesInUse). IsTable (storage_of s.config) s.session.files s.session.handles)
     (sym c.self.view_is) c.invariants.ensures.table in
     let unreadable = subst (λ (s : FilesInUse). AreAsStored (stored_in s.store) s.session.files) (sym c.self.view_is)
@@ -28,8 +32,8 @@ lend-changes-requires-clause-ascend g c =
     c.self.inside.table.session.handles c.args.changes.items table unreadable c.invariants-2.ensures bares in
     lends.ascend
 
-pub lend-changes-requires-clause-readable : goal.lend-changes-requires-clause-readable
-lend-changes-requires-clause-readable g c =
+pub lend-requires-clause-readable : goal.lend-requires-clause-readable
+lend-requires-clause-readable g c =
     let table = subst (λ (s : FilesInUse). IsTable (storage_of s.config) s.session.files s.session.handles)
     (sym c.self.view_is) c.invariants.ensures.table in
     let unreadable = subst (λ (s : FilesInUse). AreAsStored (stored_in s.store) s.session.files) (sym c.self.view_is)
@@ -238,3 +242,22 @@ returns-in-Err-OutOfMemory-clause-storing g c =
     (g.D.Disk.medium c.args.disk.now) (g.D.Disk.medium c.commit.new.disk)
     c.in-Err-OutOfMemory.ensures.elsewhere c.in-Err-OutOfMemory.ensures.outside c.in-Err-OutOfMemory.ensures.any_moment
     c.in-Err-OutOfMemory.ensures.time)
+
+-- where memory ran out, the table that took its bytes back is the very one
+pub returns-in-Err-OutOfMemory-clause-memory : goal.returns-in-Err-OutOfMemory-clause-memory
+returns-in-Err-OutOfMemory-clause-memory g c =
+    let back : HandsBack (c.self.inside.store, c.lend.new.changes, c.lend.new.self)
+    (OutOfMemory (c.in-Err-OutOfMemory.store, c.in-Err-OutOfMemory.changes, c.in-Err-OutOfMemory.table))
+    (c.commit.new.disk ≡ c.args.disk.now) =
+    rw c.in-Err-OutOfMemory.field-0-is at c.in-Err-OutOfMemory.ensures.memory in
+    let table : c.take_back.new.self ≡ c.self.inside.table =
+    c.take_back.ensures ∙ ap (λ given. taken_back given.1.1 given.1.0.items) back.0 ∙ c.lend.ensures.lent in
+    let whole : Store → Table → FilesInUse = λ store table. record {
+      config = storage_data c.self.inside.config;
+      store = store;
+      session = table.session;
+      moment = table.moment;
+    } in (
+      ap (λ given. whole given.0 c.take_back.new.self) back.0 ∙ ap (whole c.self.inside.store) table ∙ c.self.view_is,
+      back.1,
+    )
