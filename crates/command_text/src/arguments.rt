@@ -16,7 +16,9 @@ use bitflags::Flags;
 use per_base::{Bytes, Name, OpenKind, OpenMode, Origin, PerError};
 use std::alloc::Global;
 use value_model::Value;
-use value_text::{parse_hex, parse_signed, parse_type, parse_unsigned, parse_value};
+use value_text::{
+    parse_hex, parse_hex_reusing, parse_signed, parse_type, parse_unsigned, parse_value,
+};
 
 /// A name.
 pub(crate) fn name(alloc: Global, text: &[u8]) -> Result<Name, LineError>
@@ -63,11 +65,11 @@ pub(crate) fn value(alloc: Global, text: &[u8]) -> Result<Value, LineError>
     Ok(parse_value(alloc, text)?)
 }
 
-/// Bytes in two hexadecimal digits each.
-pub(crate) fn bytes(alloc: Global, text: &[u8]) -> Result<Bytes, LineError>
+/// Bytes in two hexadecimal digits each, in the memory that the room has.
+pub(crate) fn bytes(alloc: Global, room: &mut Vec<u8>, text: &[u8]) -> Result<Bytes, LineError>
     ensures { ReadsLine (λ b. b) result (bytes_in text.now) }
 {
-    Ok(parse_hex(alloc, text)?)
+    Ok(parse_hex_reusing(alloc, room, text)?)
 }
 
 /// One byte in two hexadecimal digits.

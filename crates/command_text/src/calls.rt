@@ -1,5 +1,8 @@
 //! Events and calls.
 
+ghost use Rattle.std.specs.Prelude.{◌≡◌};
+ghost use Rattle.command_text.specs.Carried.{bytes_of, call_bytes};
+
 use crate::asked::AskedType;
 use per_base::{Bytes, Name, OpenKind, OpenMode, Origin};
 use value_model::Value;
@@ -11,6 +14,18 @@ pub enum Event {
     Now(u64),
     /// A call of the application with this number, 0 to 7.
     App(u8, Call),
+}
+
+impl Event {
+    /// The bytes that are to be written by a handle, or to be the content of a file. Does not allocate.
+    pub fn into_bytes(self) -> Option<Bytes>
+        ensures { result ≡ bytes_of self }
+    {
+        match self {
+            Event::Now(_) => None,
+            Event::App(_, call) => call.into_bytes(),
+        }
+    }
 }
 
 /// A call, with its arguments in the order of its line. The first name is a storage's, the second a key's or a file's.
@@ -82,4 +97,16 @@ pub enum Call {
     ResetFile(Name, Name),
     Cat(Name, Name),
     Put(Name, Name, Bytes),
+}
+
+impl Call {
+    fn into_bytes(self) -> Option<Bytes>
+        ensures { result ≡ call_bytes self }
+    {
+        match self {
+            Call::Write(_, _, bytes) => Some(bytes),
+            Call::Put(_, _, bytes) => Some(bytes),
+            _ => None,
+        }
+    }
 }

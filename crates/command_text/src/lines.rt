@@ -40,15 +40,30 @@ pub fn parse_line(alloc: Global, line: &[u8]) -> Result<Line, LineError>
     // Memory runs out only at a line of at most `LINE_BYTES` that has an application, a word and arguments
     ensures memory { IsErrOf result LineError.OutOfMemory → Allocates line.now }
 {
+    parse_line_reusing(alloc, &mut Vec::new(alloc), line)
+}
+
+/// The same as [`parse_line`], where the bytes that a `put` or a `write` has are read into the memory of `room`, whose
+/// items are of no use any more. The event holds that memory: given back by [`Event::into_bytes`] it serves the next
+/// line. What `room` has after the call is left open.
+///
+/// # Errors
+///
+/// `NotALine` exactly where the bytes are outside the grammar or more than [`LINE_BYTES`]; `OutOfMemory`.
+pub fn parse_line_reusing(alloc: Global, room: &mut Vec<u8>, line: &[u8]) -> Result<Line, LineError>
+    ensures line { IfOk result (IsLine line.now) }
+    ensures none { IsErrOf result LineError.NotALine → (said : Line) → ¬ IsLine line.now said }
+    ensures memory { IsErrOf result LineError.OutOfMemory → Allocates line.now }
+{
     if line.len() > LINE_BYTES {
         return Err(LineError::NotALine);
     }
-    any_line(alloc, line)
+    any_line(alloc, room, line)
 }
 
 /// What the line says, however long it is.
 #[tactic(auto, unfolding(crate::specs::Reading::line_in))]
-fn any_line(alloc: Global, line: &[u8]) -> Result<Line, LineError>
+fn any_line(alloc: Global, room: &mut Vec<u8>, line: &[u8]) -> Result<Line, LineError>
     ensures read { ReadsLine (λ l. l) result (line_in line.now) }
     ensures memory { IsErrOf result LineError.OutOfMemory → parts_in line.now ≢ None }
 {
@@ -64,12 +79,12 @@ fn any_line(alloc: Global, line: &[u8]) -> Result<Line, LineError>
     if is_word(line, b"end") {
         return Ok(Line::End);
     }
-    Ok(Line::Event(event(alloc, line)?))
+    Ok(Line::Event(event(alloc, room, line)?))
 }
 
 /// The event that the text spells.
 #[tactic(auto, unfolding(crate::specs::Reading::event_in, crate::specs::Reading::parts_in))]
-fn event(alloc: Global, text: &[u8]) -> Result<Event, LineError>
+fn event(alloc: Global, room: &mut Vec<u8>, text: &[u8]) -> Result<Event, LineError>
     ensures read { ReadsLine (λ e. e) result (event_in text.now) }
     ensures memory { IsErrOf result LineError.OutOfMemory → parts_in text.now ≢ None }
 {
@@ -78,7 +93,7 @@ fn event(alloc: Global, text: &[u8]) -> Result<Event, LineError>
         return Ok(Event::Now(number(rest)?));
     }
     let application = application(first).ok_or(LineError::NotALine)?;
-    Ok(Event::App(application, call(alloc, rest)?))
+    Ok(Event::App(application, call(alloc, room, rest)?))
 }
 
 /// The application whose digit the text is.

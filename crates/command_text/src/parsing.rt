@@ -15,21 +15,26 @@ use crate::errors::LineError;
 use crate::words::{is_word, split};
 use std::alloc::Global;
 
-/// The call that the text spells.
+/// The call that the text spells. Its bytes are read into the memory that the room has.
 #[tactic(auto, unfolding(crate::specs::Reading::call_in))]
-pub(crate) fn call(alloc: Global, text: &[u8]) -> Result<Call, LineError>
+pub(crate) fn call(alloc: Global, room: &mut Vec<u8>, text: &[u8]) -> Result<Call, LineError>
     ensures read { ReadsLine (λ c. c) result (call_in text.now) }
     ensures memory { IsErrOf result LineError.OutOfMemory → split text.now ≢ None }
 {
     match split(text) {
-        Some((word, rest)) => frequent_call(alloc, word, rest),
+        Some((word, rest)) => frequent_call(alloc, room, word, rest),
         None => bare_call(text).ok_or(LineError::NotALine),
     }
 }
 
 /// A call that is made often, or another.
 #[tactic(auto, using(crate::proofs::Frequent::of_get, crate::proofs::Frequent::of_set))]
-fn frequent_call(alloc: Global, word: &[u8], text: &[u8]) -> Result<Call, LineError>
+fn frequent_call(
+    alloc: Global,
+    room: &mut Vec<u8>,
+    word: &[u8],
+    text: &[u8],
+) -> Result<Call, LineError>
     ensures { ReadsLine (λ c. c) result (manifest_call word.now text.now) }
 {
     if is_word(word, b"get") {
@@ -40,7 +45,7 @@ fn frequent_call(alloc: Global, word: &[u8], text: &[u8]) -> Result<Call, LineEr
         let (storage, name, rest) = element_front(alloc, text)?;
         return Ok(Call::Set(storage, name, value(alloc, rest)?));
     }
-    manifest_call(alloc, word, text)
+    manifest_call(alloc, room, word, text)
 }
 
 /// A call without an argument.
@@ -74,7 +79,12 @@ fn bare_call(word: &[u8]) -> Option<Call>
 
 /// A call with the text of a manifest, or another.
 #[tactic(auto, unfolding(crate::specs::Reading::manifest_call))]
-fn manifest_call(alloc: Global, word: &[u8], text: &[u8]) -> Result<Call, LineError>
+fn manifest_call(
+    alloc: Global,
+    room: &mut Vec<u8>,
+    word: &[u8],
+    text: &[u8],
+) -> Result<Call, LineError>
     ensures { ReadsLine (λ c. c) result (manifest_call word.now text.now) }
 {
     if is_word(word, b"install") {
@@ -86,12 +96,17 @@ fn manifest_call(alloc: Global, word: &[u8], text: &[u8]) -> Result<Call, LineEr
     if is_word(word, b"update-begin") {
         return Ok(Call::UpdateBegin(manifest(alloc, text)?));
     }
-    storage_call(alloc, word, text)
+    storage_call(alloc, room, word, text)
 }
 
 /// A call with a storage, or with more after it.
 #[tactic(auto, unfolding(crate::specs::Reading::storage_call))]
-fn storage_call(alloc: Global, word: &[u8], text: &[u8]) -> Result<Call, LineError>
+fn storage_call(
+    alloc: Global,
+    room: &mut Vec<u8>,
+    word: &[u8],
+    text: &[u8],
+) -> Result<Call, LineError>
     ensures { ReadsLine (λ c. c) result (storage_call word.now text.now) }
 {
     if is_word(word, b"open-kvs") {
@@ -127,12 +142,17 @@ fn storage_call(alloc: Global, word: &[u8], text: &[u8]) -> Result<Call, LineErr
     if is_word(word, b"files") {
         return Ok(Call::Files(name(alloc, text)?));
     }
-    element_call(alloc, word, text)
+    element_call(alloc, room, word, text)
 }
 
 /// A call with a storage and a name of it, or with more after them, or another.
 #[tactic(auto, unfolding(crate::specs::Reading::element_call))]
-fn element_call(alloc: Global, word: &[u8], text: &[u8]) -> Result<Call, LineError>
+fn element_call(
+    alloc: Global,
+    room: &mut Vec<u8>,
+    word: &[u8],
+    text: &[u8],
+) -> Result<Call, LineError>
     ensures { ReadsLine (λ c. c) result (element_call word.now text.now) }
 {
     if is_word(word, b"exists") {
@@ -183,12 +203,17 @@ fn element_call(alloc: Global, word: &[u8], text: &[u8]) -> Result<Call, LineErr
         let (storage, name) = element(alloc, text)?;
         return Ok(Call::Cat(storage, name));
     }
-    detail_call(alloc, word, text)
+    detail_call(alloc, room, word, text)
 }
 
 /// A call with a storage, a name of it and more, or another.
 #[tactic(auto, unfolding(crate::specs::Reading::detail_call))]
-fn detail_call(alloc: Global, word: &[u8], text: &[u8]) -> Result<Call, LineError>
+fn detail_call(
+    alloc: Global,
+    room: &mut Vec<u8>,
+    word: &[u8],
+    text: &[u8],
+) -> Result<Call, LineError>
     ensures { ReadsLine (λ c. c) result (detail_call word.now text.now) }
 {
     if is_word(word, b"get-as") {
@@ -206,14 +231,19 @@ fn detail_call(alloc: Global, word: &[u8], text: &[u8]) -> Result<Call, LineErro
     }
     if is_word(word, b"put") {
         let (storage, name, rest) = element_front(alloc, text)?;
-        return Ok(Call::Put(storage, name, bytes(alloc, rest)?));
+        return Ok(Call::Put(storage, name, bytes(alloc, room, rest)?));
     }
-    handle_call(alloc, word, text)
+    handle_call(alloc, room, word, text)
 }
 
 /// A call with a storage and a handle of it, or with more after them.
 #[tactic(auto, unfolding(crate::specs::Reading::handle_call))]
-fn handle_call(alloc: Global, word: &[u8], text: &[u8]) -> Result<Call, LineError>
+fn handle_call(
+    alloc: Global,
+    room: &mut Vec<u8>,
+    word: &[u8],
+    text: &[u8],
+) -> Result<Call, LineError>
     ensures { ReadsLine (λ c. c) result (handle_call word.now text.now) }
 {
     if is_word(word, b"close-file") {
@@ -248,12 +278,17 @@ fn handle_call(alloc: Global, word: &[u8], text: &[u8]) -> Result<Call, LineErro
         let (storage, number) = handle(alloc, text)?;
         return Ok(Call::Flush(storage, number));
     }
-    handle_number_call(alloc, word, text)
+    handle_number_call(alloc, room, word, text)
 }
 
 /// A call with a storage, a handle of it and a number, or another.
 #[tactic(auto, unfolding(crate::specs::Reading::handle_number_call))]
-fn handle_number_call(alloc: Global, word: &[u8], text: &[u8]) -> Result<Call, LineError>
+fn handle_number_call(
+    alloc: Global,
+    room: &mut Vec<u8>,
+    word: &[u8],
+    text: &[u8],
+) -> Result<Call, LineError>
     ensures { ReadsLine (λ c. c) result (handle_number_call word.now text.now) }
 {
     if is_word(word, b"read") {
@@ -268,12 +303,17 @@ fn handle_number_call(alloc: Global, word: &[u8], text: &[u8]) -> Result<Call, L
         let (storage, handle, rest) = handle_front(alloc, text)?;
         return Ok(Call::Seek(storage, handle, number(rest)?));
     }
-    handle_bytes_call(alloc, word, text)
+    handle_bytes_call(alloc, room, word, text)
 }
 
 /// A call with a storage, a handle of it and bytes, or another.
 #[tactic(auto, unfolding(crate::specs::Reading::handle_bytes_call))]
-fn handle_bytes_call(alloc: Global, word: &[u8], text: &[u8]) -> Result<Call, LineError>
+fn handle_bytes_call(
+    alloc: Global,
+    room: &mut Vec<u8>,
+    word: &[u8],
+    text: &[u8],
+) -> Result<Call, LineError>
     ensures { ReadsLine (λ c. c) result (handle_bytes_call word.now text.now) }
 {
     if is_word(word, b"line") {
@@ -282,7 +322,7 @@ fn handle_bytes_call(alloc: Global, word: &[u8], text: &[u8]) -> Result<Call, Li
     }
     if is_word(word, b"write") {
         let (storage, handle, rest) = handle_front(alloc, text)?;
-        return Ok(Call::Write(storage, handle, bytes(alloc, rest)?));
+        return Ok(Call::Write(storage, handle, bytes(alloc, room, rest)?));
     }
     move_call(alloc, word, text)
 }

@@ -75,14 +75,15 @@ impl Store {
     ///
     /// # Errors
     ///
-    /// `OutOfMemory` hands back the storage and what was given beside, before any call of the disk. `Device` closes it.
+    /// `OutOfMemory` hands back the storage, the changes and what was given beside, before any call of the disk. `Device`
+    /// closes it.
     #[tactic(none)]
     pub fn commit<D: Disk, T: Drop>(
         self,
         disk: &mut D,
         changes: Vec<Change>,
         beside: T,
-    ) -> Result<Store, Fault<(Store, T)>>
+    ) -> Result<Store, Fault<(Store, Vec<Change>, T)>>
         // The storage is in use on this disk; the changes name each element once, and lead to a view within the limits.
         requires used { IsUsed D.told (D.medium disk.old).image self }
         requires changes { AreCommittable (store_shape self) (view_in self) changes.items }
@@ -103,8 +104,9 @@ impl Store {
             (index_in store).entries) }
         ensures format { IfOk result (λ store. (index_in store).format ≡ 2) }
 
-        // Running out of memory hands the storage back, and then nothing happened. Only a disk that failed closes it.
-        ensures memory { IfErr result (λ fault. HandsBack (self, beside) fault (disk.new ≡ disk.old)) }
+        // Running out of memory hands all that was given back, and then nothing happened. Only a disk that failed closes
+        // the storage.
+        ensures memory { IfErr result (λ fault. HandsBack (self, changes, beside) fault (disk.new ≡ disk.old)) }
         ensures cause { IfErr result (λ fault. IsDeviceFault fault
             → Rose (D.medium disk.old).faults (D.medium disk.new).faults) }
         ensures passes { OnOk result ((D.medium disk.new).faults ≡ (D.medium disk.old).faults) }
@@ -149,7 +151,9 @@ impl Store {
         index_keeps();
         let ready = match self.write_contents(disk, &changes, beside) {
             Ok(ready) => ready,
-            Err(Fault::OutOfMemory(beside)) => return Err(Fault::OutOfMemory((self, beside))),
+            Err(Fault::OutOfMemory(beside)) => {
+                return Err(Fault::OutOfMemory((self, changes, beside)));
+            }
             Err(Fault::Device) => return Err(Fault::Device),
         };
         let Ready {

@@ -11,7 +11,7 @@ use Rattle.per_base.specs.declared.errors.Limit.TheVariants.{FileBytes}
 use Rattle.per_base.specs.declared.errors.PerError.{PerError}
 use Rattle.per_base.specs.declared.errors.PerError.TheVariants.{IllegalWriteAccess, InvalidSize, LimitReached}
 use Rattle.per_base.specs.declared.errors.PerError.TheVariants.{OutOfStorageSpace}
-use Rattle.per_base.specs.Contents.{readable_bytes, HasLength}
+use Rattle.per_base.specs.Contents.{readable_bytes, is_readable, HasLength}
 use Rattle.per_base.specs.Refusals.{refuse, refused_by}
 use Rattle.file_core.specs.declared.cursor.Cursor.{Cursor}
 use Rattle.file_core.specs.declared.room.Room.{Room}
@@ -38,6 +38,19 @@ file_of info bytes = record { info = info; len = length bytes; content = Good by
 -- the file with other bytes: its content was changed at the moment `now`, for this cause
 abbrev pub changed_to : List ℕ → ℕ → Cause → Element → Element
 changed_to bytes now cause file = file_of (option_map (info_changed now cause) file.info) bytes
+
+-- the bytes of a content, where it can be read
+abbrev pub good_bytes : Content → Option (List ℕ)
+good_bytes (Good bytes) = Some bytes
+good_bytes (Bad salvage) = None
+
+-- the file once its bytes are taken out, where it can be read: it is unreadable then, of the same length
+abbrev pub without_bytes : Element → Element
+without_bytes file = cond (is_readable file.content) (record file { content = Bad None }) file
+
+-- the file with these bytes as its content, where they are as many as its length says; else as it was
+abbrev pub with_bytes : List ℕ → Element → Element
+with_bytes bytes file = cond (length bytes == file.len) (record file { content = Good bytes }) file
 
 -- the file as opened at the moment `now`
 abbrev pub opened_at : ℕ → Element → Element

@@ -4,7 +4,8 @@ ghost use Rattle.std.specs.Prelude.{◌≡◌, ◌+◌, ◌<◌, ◌≤◌, ◌^
 ghost use Rattle.std.specs.Bool.{OnTrue, OnFalse};
 ghost use Rattle.per_base.specs.Contents.{is_readable, readable_bytes};
 ghost use Rattle.per_base.specs.Refusals.{IsDue, IsRefusal};
-ghost use Rattle.file_core.specs.Files.{GrowsBy, IsFile, NoSalvage, changed_to, cut, file_of, opened_at, written};
+ghost use Rattle.file_core.specs.Files.{GrowsBy, IsFile, NoSalvage, changed_to, cut, file_of, good_bytes, opened_at};
+ghost use Rattle.file_core.specs.Files.{with_bytes, without_bytes, written};
 ghost use Rattle.file_core.specs.Places as places;
 ghost use Rattle.file_core.specs.Places.{overwritten};
 
@@ -15,6 +16,7 @@ use crate::room::Room;
 use per_base::{Bytes, Cause, Content, Element, FileInfo, PerError};
 use std::alloc::AllocError;
 use std::marker::Model;
+use std::mem;
 
 /// The greatest number of bytes of a file.
 pub const FILE_BYTES: u64 = 1_048_576;
@@ -121,6 +123,32 @@ impl File {
         self.info = changed(now, cause, self.info);
         self.len = bytes.len() as u32;
         self.content = Content::Good(bytes);
+    }
+
+    /// Takes the bytes out of a readable file, which is unreadable then; its info and its length stay. Does not
+    /// allocate.
+    pub fn take_bytes(&mut self) -> Option<Bytes>
+        // An unreadable file gives none, and stays.
+        ensures taken { result ≡ good_bytes self.old.content }
+        ensures left { self.new ≡ without_bytes self.old }
+    {
+        match mem::replace(&mut self.content, Content::Bad(None)) {
+            Content::Good(bytes) => Some(bytes),
+            other => {
+                self.content = other;
+                None
+            }
+        }
+    }
+
+    /// Puts back bytes that were taken out of the file: they are as many as its length says, and else the file stays as
+    /// it is. Does not allocate.
+    pub fn put_bytes(&mut self, bytes: Bytes)
+        ensures { self.new ≡ with_bytes bytes self.old }
+    {
+        if bytes.len() as u64 == u64::from(self.len) {
+            self.content = Content::Good(bytes);
+        }
     }
 
     /// Makes the salvage of an unreadable file its content, where there is a salvage, and says whether it did. Does not

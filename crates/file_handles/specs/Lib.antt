@@ -1,5 +1,6 @@
 pub mod ByName
 pub mod Handling
+pub mod Lending
 pub mod Opening
 pub mod Sessions
 pub mod Tables

@@ -1,3 +1,4 @@
+pub mod Bare
 pub mod Initials
 pub mod Keeping
 pub mod Making

@@ -174,7 +174,7 @@ head_is : (name : List ℕ) (e : List ℕ × Element) (m : Map) (b : Bool) → b
     → element_at (e ∷ m) name ≡ cond b (Some e.1) (element_at m name)
 head_is name e m b is = rw (at_name name e.0, is) refl
 
-change_is : (name : List ℕ) (change : Change) (changes : List Change) (b : Bool)
+pub change_is : (name : List ℕ) (change : Change) (changes : List Change) (b : Bool)
     → bytes_eq (changed_name change) name ≡ b → change_at name (change ∷ changes)
     ≡ cond b (Some change) (change_at name changes)
 change_is name change changes b is = rw is refl

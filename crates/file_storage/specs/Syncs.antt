@@ -1,6 +1,7 @@
 -- Making the working files durable: what refuses it, and what it makes of the storage. `s` is the open storage, `old`
 -- and `new` are the disk before and after it.
-use Rattle.std.specs.Prelude.{◌≡◌, ℕ, length, Bool, false, not, ◌&&◌, Option, Some, None}
+use Rattle.std.specs.Prelude.{◌≡◌, ℕ, List, length, Bool, false, not, ◌&&◌, Option, Some, None}
+use Rattle.per_base.specs.declared.elements.Change.{Change}
 use Rattle.per_base.specs.declared.elements.Element.{Element}
 use Rattle.per_base.specs.declared.errors.Limit.TheVariants as limit
 use Rattle.per_base.specs.declared.errors.PerError.{PerError}
@@ -20,10 +21,15 @@ use Rattle.element_store.specs.Stores.{IsUsed, store_shape, view_in}
 use Rattle.element_maps.specs.Sessions as maps
 use Rattle.element_maps.specs.Storages.{IsDurable, KeepsEqual}
 use Rattle.file_storage.specs.FileSessions.{FilesInUse, stored_in}
+use Rattle.file_storage.specs.Walks.{walked}
 
 -- whether the working files are those that are synchronised
 abbrev pub is_synced : FilesInUse → Bool
 is_synced s = maps.same_map (stored_in s.store) s.session.files
+
+-- the changes that make the synchronised files into the working ones
+abbrev pub due_changes : FilesInUse → List Change
+due_changes s = walked s.session.files (stored_in s.store)
 
 -- `LimitReached` where files differ and no generation is left for them: this number, which rises with each commit, is
 -- the greatest of 64 bits

@@ -6,12 +6,18 @@ use Rattle.per_base.specs.declared.elements.Element.{Element}
 use Rattle.per_base.specs.Maps.{Map}
 use Rattle.per_base.specs.Names.{name_cmp}
 use Rattle.per_base.specs.declared.elements.Change.{Change}
-use Rattle.per_base.specs.declared.elements.Change.TheVariants.{Remove}
+use Rattle.per_base.specs.declared.elements.Change.TheVariants.{Put, Remove, Touch}
 use Rattle.element_maps.specs.Differences.{arrival, put}
 
 -- the change that removes this stored file
 abbrev pub removed : List ℕ × Element → Change
 removed e = Remove e.0
+
+-- the change without the bytes that it puts
+abbrev pub bare : Change → Change
+bare (Put f) = Put (record f { bytes = [] })
+bare (Remove name) = Remove name
+bare (Touch name info) = Touch name info
 
 -- the changes along the stored files up to the name of this working file and at it, then those of the rest
 abbrev pub passing : List ℕ × Element → (rest : Map → List Change) → (stored : Map) → List Change

@@ -1,16 +1,17 @@
 //! What differs between the stored files and the working ones.
 
 ghost use Rattle.std.specs.Prelude.{◌≡◌, ◌++◌, List, [], ◌∷◌, ℕ, map, false, true, IfOk, OnOk, IsTrue, Some};
-ghost use Rattle.std.specs.Option.{option_to_list};
+ghost use Rattle.std.specs.Option.{option_copied, option_map, option_to_list};
 ghost use Rattle.per_base.specs.declared.elements.Element.{Element};
-ghost use Rattle.per_base.specs.Maps.{Map};
+ghost use Rattle.per_base.specs.Maps.{Map, element_at};
 ghost use Rattle.per_base.specs.Contents.{same_content};
 ghost use Rattle.element_state.specs.Changes as changes;
 ghost use Rattle.element_state.specs.Views.{element_of};
 ghost use Rattle.element_maps.specs.Differences as differences;
 ghost use Rattle.element_maps.specs.Sessions.{same_map};
+ghost use Rattle.file_handles.specs.Lending.{bytes_there, filled};
 ghost use Rattle.file_storage.specs.FileSessions.{AreAsStored};
-ghost use Rattle.file_storage.specs.Walks.{walked};
+ghost use Rattle.file_storage.specs.Walks.{bare, walked};
 
 use file_core::File;
 use per_base::{Bytes, Change, Content, Entry, FileInfo, Fresh, Name};
@@ -36,13 +37,15 @@ pub fn are_same(entries: &[Entry], files: &BTreeMap<Name, File>) -> bool
     rest.is_empty()
 }
 
-/// The changes that make the stored files (`entries`) into the working ones (`files`), in the order of the names.
+/// The changes that make the stored files (`entries`) into the working ones (`files`), in the order of the names,
+/// without the bytes that they put.
 pub fn differences(
     alloc: Global,
     entries: &[Entry],
     files: &BTreeMap<Name, File>,
 ) -> Result<Vec<Change>, AllocError>
-    ensures { IfOk result (λ list. list.items ≡ walked files.now.entries (map element_of entries.now)) }
+    ensures { IfOk result (λ list. list.items
+        ≡ map bare (walked files.now.entries (map element_of entries.now))) }
 {
     let mut list = Vec::new(alloc);
     let mut rest = entries;
@@ -71,8 +74,9 @@ fn pass<'a>(
     name: &Name,
     file: &File,
 ) -> Result<&'a [Entry], AllocError>
-    ensures { IfOk result (λ rest. (files : Map) → list.new.items ++ walked files (map element_of rest.now)
-        ≡ list.old.items ++ walked ((name.now, file.now) ∷ files) (map element_of entries.now)) }
+    ensures { IfOk result (λ rest. (files : Map) → list.new.items
+        ++ map bare (walked files (map element_of rest.now))
+        ≡ list.old.items ++ map bare (walked ((name.now, file.now) ∷ files) (map element_of entries.now))) }
 {
     let mut rest = entries;
     while let Some((entry, more)) = rest.split_first() {
@@ -93,7 +97,8 @@ fn pass<'a>(
 /// The change at a name that a stored file and a working file have, where they differ.
 fn meet(alloc: Global, list: &mut Vec<Change>, entry: &Entry, file: &File) -> Result<(), AllocError>
     ensures { OnOk result (list.new.items ≡ list.old.items
-        ++ option_to_list (differences.arrival entry.now.name (Some (element_of entry.now).1) file.now)) }
+        ++ option_to_list (option_map bare (differences.arrival entry.now.name (Some (element_of entry.now).1)
+        file.now))) }
 {
     if is_same(entry, file) {
         return Ok(());
@@ -104,8 +109,8 @@ fn meet(alloc: Global, list: &mut Vec<Change>, entry: &Entry, file: &File) -> Re
 
 /// The change of a stored file that differs: its info alone where its bytes are the same.
 fn replacement(alloc: Global, entry: &Entry, file: &File) -> Result<Change, AllocError>
-    ensures { IfOk result (λ change. change ≡ differences.replacement entry.now.name (element_of entry.now).1
-        file.now) }
+    ensures { IfOk result (λ change. change ≡ bare (differences.replacement entry.now.name (element_of entry.now).1
+        file.now)) }
 {
     if has_same_bytes(entry, file) {
         return Ok(Change::Touch(entry.name.copy()?, file.info()));
@@ -113,17 +118,56 @@ fn replacement(alloc: Global, entry: &Entry, file: &File) -> Result<Change, Allo
     put(alloc, &entry.name, file)
 }
 
-/// All of a file, as a change.
+/// A file, as a change without its bytes.
 fn put(alloc: Global, name: &Name, file: &File) -> Result<Change, AllocError>
-    ensures { IfOk result (λ change. change ≡ differences.put name.now file.now) }
+    ensures { IfOk result (λ change. change ≡ bare (differences.put name.now file.now)) }
 {
     let name = name.copy()?;
-    let bytes = Bytes::new(Vec::from_slice(alloc, file.bytes())?);
     Ok(Change::Put(Fresh {
         name,
         info: Some(file.info()),
-        bytes,
+        bytes: Bytes::new(Vec::new(alloc)),
     }))
+}
+
+/// Copies the bytes of the files that the changes put into those changes.
+pub fn copy_contents(
+    alloc: Global,
+    files: &BTreeMap<Name, File>,
+    changes: &mut Vec<Change>,
+) -> Result<(), AllocError>
+    ensures { OnOk result (changes.new.items ≡ map (filled files.now.entries) changes.old.items) }
+{
+    for change in changes.iter_mut() {
+        copy_content(alloc, files, change)?;
+    }
+    Ok(())
+}
+
+/// Copies the bytes of the file that the change puts into it.
+fn copy_content(
+    alloc: Global,
+    files: &BTreeMap<Name, File>,
+    change: &mut Change,
+) -> Result<(), AllocError>
+    ensures { OnOk result (change.new ≡ filled files.now.entries change.old) }
+{
+    if let Change::Put(fresh) = change {
+        if let Some(bytes) = bytes_of(files, &fresh.name) {
+            fresh.bytes = Bytes::new(Vec::from_slice(alloc, bytes)?);
+        }
+    }
+    Ok(())
+}
+
+/// The bytes of the file of this name, where it is there and readable.
+fn bytes_of<'a>(files: &'a BTreeMap<Name, File>, name: &Name) -> Option<&'a [u8]>
+    ensures { option_copied result ≡ bytes_there (element_at files.now.entries name.now) }
+{
+    match files.get(name)?.content() {
+        Content::Good(bytes) => Some(bytes.as_slice()),
+        Content::Bad(_) => None,
+    }
 }
 
 /// Whether both are the same in all.

@@ -1,7 +1,7 @@
 //! Making the working files durable.
 
 ghost use Rattle.std.specs.Prelude.{◌≡◌, [], IsTrue, IfOk, IfErr, Some, None, IsSome, true, false, length, List, ℕ};
-ghost use Rattle.std.specs.Prelude.{◌<◌, OnOk};
+ghost use Rattle.std.specs.Prelude.{◌<◌, OnOk, map};
 ghost use Rattle.per_base.specs.Causes.{Rose};
 ghost use Rattle.per_base.specs.Faults.{HandsBack, IsDeviceFault};
 ghost use Rattle.guarded_cell.specs.Register.{IsAlone};
@@ -14,10 +14,11 @@ ghost use Rattle.element_store.specs.Committing.{index_in, index_length};
 ghost use Rattle.element_store.specs.Stores.{IsStore, IsUsed, store_shape, view_in};
 ghost use Rattle.file_storage.specs.Closes.{MatchClosed, OnDone};
 ghost use Rattle.file_storage.specs.FileSessions.{FilesInUse, stored_in};
-ghost use Rattle.file_storage.specs.Syncs.{IsSynced, WritesAtMost, close_refused, is_synced, sync_refused, synced_view};
-ghost use Rattle.file_storage.specs.Syncs.{worn};
+ghost use Rattle.file_storage.specs.Syncs.{IsSynced, WritesAtMost, close_refused, due_changes, is_synced};
+ghost use Rattle.file_storage.specs.Syncs.{sync_refused, synced_view, worn};
+ghost use Rattle.file_storage.specs.Walks.{bare};
 
-use crate::differences::{are_same, differences};
+use crate::differences::{are_same, copy_contents, differences};
 use crate::files::Files;
 use disk_model::Disk;
 use element_laws::untouched_is_kept;
@@ -192,7 +193,7 @@ impl Files {
         if self.is_synced() {
             return Ok(self);
         }
-        match self.changes() {
+        match self.copied_changes() {
             Ok(changes) => self.commit(disk, changes),
             Err(_) => Err(Fault::OutOfMemory(self)),
         }
@@ -230,7 +231,7 @@ impl Files {
                 table,
             }),
             Err(Fault::Device) => Err(Fault::Device),
-            Err(Fault::OutOfMemory((store, ()))) => Err(Fault::OutOfMemory(Files {
+            Err(Fault::OutOfMemory((store, _, ()))) => Err(Fault::OutOfMemory(Files {
                 alloc,
                 config,
                 store,
@@ -239,8 +240,10 @@ impl Files {
         }
     }
 
-    /// Makes the working files durable, where a generation is left or nothing differs, and lets the storage go.
+    /// Makes the working files durable, where a generation is left or nothing differs, and lets the storage go, on
+    /// which no handle is open.
     fn closed<D: Disk>(self, disk: &mut D) -> Result<(), Fault<Files>>
+        requires free { self.session.handles ≡ [] }
         requires used { IsUsed D.told (D.medium disk.old).image self.store }
         requires not_worn { worn self ≡ None }
         ensures synced { OnOk result ((files : FilesInUse)
@@ -264,12 +267,13 @@ impl Files {
         }
     }
 
-    /// Commits these changes, which make the stored files into the working ones. The working files are let go before
-    /// the first call of the disk, so that they are not in memory beside what is written and what a sync holds.
+    /// Commits these changes, which make the stored files into the working ones, with the bytes of the working files,
+    /// which are moved into them, and back where memory runs out. What is left of the working files is let go before
+    /// the first call of the disk, so that it is not in memory beside what is written and what a sync holds.
     fn commit_last<D: Disk>(self, disk: &mut D, changes: Vec<Change>) -> Result<(), Fault<Files>>
+        requires free { self.session.handles ≡ [] }
         requires used { IsUsed D.told (D.medium disk.old).image self.store }
-        requires changes { IsSync (store_shape self.store) (λ bytes. true) (view_in self.store) (stored_in self.store)
-            self.session.files changes.items }
+        requires changes { changes.items ≡ map bare (due_changes self) }
         requires differ { is_synced self ≡ false }
         requires not_worn { (view_in self.store).generation < greatest_generation }
         ensures synced { OnOk result ((files : FilesInUse)
@@ -284,26 +288,32 @@ impl Files {
         changes_make_maps();
         views_are_maps();
         self.invariants();
+        self.store.invariants();
         let Files {
             alloc,
             config,
             store,
-            table,
+            mut table,
         } = self;
+        let mut changes = changes;
+        table.lend(&mut changes);
         match store.commit(disk, changes, table) {
             Ok(_) => Ok(()),
             Err(Fault::Device) => Err(Fault::Device),
-            Err(Fault::OutOfMemory((store, table))) => Err(Fault::OutOfMemory(Files {
-                alloc,
-                config,
-                store,
-                table,
-            })),
+            Err(Fault::OutOfMemory((store, changes, mut table))) => {
+                table.take_back(changes);
+                Err(Fault::OutOfMemory(Files {
+                    alloc,
+                    config,
+                    store,
+                    table,
+                }))
+            }
         }
     }
 
-    /// The changes that make the stored files into the working ones.
-    fn changes(&self) -> Result<Vec<Change>, AllocError>
+    /// The changes that make the stored files into the working ones, with copies of the bytes that they put.
+    fn copied_changes(&self) -> Result<Vec<Change>, AllocError>
         requires { IsStore self.now.store }
         ensures { IfOk result (λ changes. IsSync (store_shape self.now.store) (λ bytes. true) (view_in self.now.store)
             (stored_in self.now.store) self.now.session.files changes.items) }
@@ -311,6 +321,15 @@ impl Files {
         views_are_maps();
         self.invariants();
         self.store.invariants();
+        let mut changes = self.changes()?;
+        copy_contents(self.alloc, self.table.files(), &mut changes)?;
+        Ok(changes)
+    }
+
+    /// The changes that make the stored files into the working ones, without the bytes that they put.
+    fn changes(&self) -> Result<Vec<Change>, AllocError>
+        ensures { IfOk result (λ changes. changes.items ≡ map bare (due_changes self.now)) }
+    {
         let list = differences(self.alloc, self.store.entries(), self.table.files())?;
         Ok(list)
     }

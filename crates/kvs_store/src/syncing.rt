@@ -152,7 +152,7 @@ impl Kvs {
                 })
             }
             Err(Fault::Device) => Err(SyncFault::Device),
-            Err(Fault::OutOfMemory((store, ()))) => Err(SyncFault::OutOfMemory(Kvs {
+            Err(Fault::OutOfMemory((store, _, ()))) => Err(SyncFault::OutOfMemory(Kvs {
                 alloc,
                 store,
                 session,

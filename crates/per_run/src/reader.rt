@@ -21,7 +21,7 @@ ghost use Rattle.per_run.specs.Steps.{ending_of};
 use crate::endings::Ending;
 use crate::octets::{many_octets, write_octets};
 use crate::writing::{write_made, write_text};
-use command_text::{Event, LINE_BYTES, Line, LineError, Reply, parse_line, push_reply};
+use command_text::{Event, LINE_BYTES, Line, LineError, Reply, parse_line_reusing, push_reply};
 use disk_model::Disk;
 use memchr::memchr;
 use migrate_fns::Migrations;
@@ -32,7 +32,11 @@ use std::alloc::{AllocError, Global};
 /// How many bytes of room are kept for the text of the next reply.
 const ROOM_BYTES: usize = 4_096;
 
-/// The runtime, the prefix of the line that is being read, how many lines were handled, and room for a reply's text.
+/// How many bytes of room are kept at most for the bytes that the next line has.
+const ARGUMENT_BYTES: usize = 65_536;
+
+/// The runtime, the prefix of the line that is being read, how many lines were handled, and room for a reply's text and
+/// for the bytes that a line has as its argument.
 #[derive(Drop)]
 pub struct Reader {
     pub alloc: Global,
@@ -40,6 +44,7 @@ pub struct Reader {
     pub kept: Vec<u8>,
     pub number: u64,
     pub room: String,
+    pub argument: Vec<u8>,
 }
 
 impl Reader {
@@ -55,6 +60,7 @@ impl Reader {
             kept: Vec::new(alloc),
             number: 0,
             room: String::new(alloc),
+            argument: Vec::new(alloc),
         }
     }
 }
@@ -252,6 +258,7 @@ fn handle_whole<D: Disk, K: Sink>(
         sink,
         disk,
         &mut reader.room,
+        &mut reader.argument,
         &line[..count],
         number,
     ) {
@@ -302,6 +309,7 @@ fn handle_line<D: Disk, K: Sink>(
         sink,
         disk,
         &mut reader.room,
+        &mut reader.argument,
         reader.kept.as_slice(),
         number,
     ) {
@@ -322,6 +330,7 @@ fn handle_text<D: Disk, K: Sink>(
     sink: &mut K,
     disk: &mut D,
     room: &mut String,
+    argument: &mut Vec<u8>,
     text: &[u8],
     number: u64,
 ) -> Result<(), Ending>
@@ -349,14 +358,25 @@ fn handle_text<D: Disk, K: Sink>(
     ensures blames { Blames (K.faults sink.old) (K.faults sink.new) result }
     ensures time { Elapses (D.medium disk.old) (D.medium disk.new) }
 {
-    match parse_line(alloc, text) {
+    match parse_line_reusing(alloc, argument, text) {
         Ok(Line::Nothing) => Ok(()),
-        Ok(Line::Event(event)) => handle_event(
-            alloc, runtime, migrations, sink, disk, room, &event,
-        ),
+        Ok(Line::Event(event)) => {
+            let handled = handle_event(alloc, runtime, migrations, sink, disk, room, &event);
+            keep_argument(argument, event);
+            handled
+        }
         Ok(Line::End) => Err(Ending::EndLine),
         Err(LineError::NotALine) => Err(refuse(alloc, sink, number)),
         Err(LineError::OutOfMemory) => Err(Ending::OutOfMemory),
+    }
+}
+
+/// Keeps the memory of the bytes that the event had, for those of the next one.
+fn keep_argument(argument: &mut Vec<u8>, event: Event) {
+    if let Some(bytes) = event.into_bytes() {
+        *argument = bytes.into_vec();
+        argument.clear();
+        argument.shrink_to(ARGUMENT_BYTES);
     }
 }
 

@@ -109,11 +109,20 @@ fn count_at(bytes: &[u8]) -> usize
     bytes.len()
 }
 
-/// As many bytes as stand at the start in two digits each, and what follows them. Their room is taken at once.
+/// As many bytes as stand at the start in two digits each, and what follows them.
 pub(crate) fn bytes_at(alloc: Global, bytes: &[u8]) -> Result<(Bytes, &[u8]), DecodeError>
     ensures { Gives (λ x. (x.0, x.1.now)) result (hex_bytes_at (length bytes.now) bytes.now) }
 {
-    let mut found = Vec::with_capacity(alloc, count_at(bytes))?;
+    bytes_reusing(Vec::new(alloc), bytes)
+}
+
+/// The same, in a room whose items are of no use any more. What the bytes need beyond it is taken at once.
+pub(crate) fn bytes_reusing(room: Vec<u8>, bytes: &[u8]) -> Result<(Bytes, &[u8]), DecodeError>
+    ensures { Gives (λ x. (x.0, x.1.now)) result (hex_bytes_at (length bytes.now) bytes.now) }
+{
+    let mut found = room;
+    found.clear();
+    found.reserve_exact(count_at(bytes))?;
     let mut rest = bytes;
     for _ in 0..bytes.len() {
         let Some((byte, others)) = byte_at(rest) else {

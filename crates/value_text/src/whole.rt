@@ -8,9 +8,10 @@ ghost use Rattle.value_text.specs.Whole.{bytes_in, signed_in, unsigned_in};
 ghost use Rattle.value_model.specs.Decoding.{Gives};
 
 use crate::numbers::{signed, unsigned};
-use crate::strings::bytes_at;
+use crate::strings::bytes_reusing;
 use per_base::Bytes;
 use std::alloc::Global;
+use std::mem;
 use value_model::DecodeError;
 
 /// The number that the whole text writes.
@@ -75,12 +76,12 @@ pub fn parse_signed(max: u64, text: &[u8]) -> Result<i64, DecodeError>
     signed_in(max, text)
 }
 
-/// The bytes that the whole text writes.
+/// The bytes that the whole text writes, in a room whose items are of no use any more.
 #[tactic(auto, unfolding(crate::specs::Whole::bytes_in))]
-fn bytes_in(alloc: Global, text: &[u8]) -> Result<Bytes, DecodeError>
+fn bytes_in(room: Vec<u8>, text: &[u8]) -> Result<Bytes, DecodeError>
     ensures { Gives (λ b. b) result (bytes_in text.now) }
 {
-    let (bytes, rest) = bytes_at(alloc, text)?;
+    let (bytes, rest) = bytes_reusing(room, text)?;
     if !rest.is_empty() {
         return Err(DecodeError::NotAValue);
     }
@@ -101,5 +102,24 @@ pub fn parse_hex(alloc: Global, text: &[u8]) -> Result<Bytes, DecodeError>
     // What it returns is what reading the text gives, `bytes_in`, or an error where that is `None` or memory ran out.
     ensures exact { Gives (λ b. b) result (bytes_in text.now) }
 {
-    bytes_in(alloc, text)
+    parse_hex_reusing(alloc, &mut Vec::new(alloc), text)
+}
+
+/// The same as [`parse_hex`], in the memory that `room` has, whose items are of no use any more. The bytes found hold
+/// that memory: given back by [`Bytes::into_vec`] it serves the next text. What `room` has after the call is left open.
+///
+/// # Errors
+///
+/// `NotAValue` exactly where the text is not of this form; `OutOfMemory`.
+pub fn parse_hex_reusing(
+    alloc: Global,
+    room: &mut Vec<u8>,
+    text: &[u8],
+) -> Result<Bytes, DecodeError>
+    ensures found { IfOk result (λ b. text.now ≡ hex_text b) }
+    ensures only { IsErrOf result DecodeError.NotAValue → (b : List ℕ) → ((i : ℕ) → slice_index b i < 256)
+        → text.now ≢ hex_text b }
+    ensures exact { Gives (λ b. b) result (bytes_in text.now) }
+{
+    bytes_in(mem::replace(room, Vec::new(alloc)), text)
 }

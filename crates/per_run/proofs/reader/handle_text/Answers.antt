@@ -39,16 +39,16 @@ returns-in-Ok-Nothing-clause-goes_on g c = λ start before lines whole front han
     (says _ whole _ line.Nothing c.in-Ok-Nothing.field-0-is front c.in-Ok-Nothing.ensures.line) refl refl
 
 pub returns-in-Ok-Event-clause-goes_on : goal.returns-in-Ok-Event-clause-goes_on
-returns-in-Ok-Event-clause-goes_on g c = on_ok_weaker c.handle_event.result
+returns-in-Ok-Event-clause-goes_on g c = on_ok_weaker c.handle_event-handled.result
     (λ handles start before lines whole front handled. handles start before lines whole
     (says _ whole _ (line.Event c.in-Ok-Event.event) c.in-Ok-Event.field-0-is front c.in-Ok-Event.ensures.line) handled)
-    c.handle_event.ensures.goes_on
+    c.handle_event-handled.ensures.goes_on
 
 pub returns-in-Ok-Event-clause-ends : goal.returns-in-Ok-Event-clause-ends
-returns-in-Ok-Event-clause-ends g c = IfErr-weaker c.handle_event.result _ _
+returns-in-Ok-Event-clause-ends g c = IfErr-weaker c.handle_event-handled.result _ _
     (λ ending ends laws start before lines others whole front number handled. ends laws start before lines others whole
     (says _ whole _ (line.Event c.in-Ok-Event.event) c.in-Ok-Event.field-0-is front c.in-Ok-Event.ensures.line) handled)
-    c.handle_event.ensures.ends
+    c.handle_event-handled.ensures.ends
 
 pub returns-in-Ok-End-clause-ends : goal.returns-in-Ok-End-clause-ends
 returns-in-Ok-End-clause-ends g c = λ laws start before lines others whole front number handled.
@@ -69,7 +69,7 @@ pub returns-in-Ok-Event-clause-needs : goal.returns-in-Ok-Event-clause-needs
 returns-in-Ok-Event-clause-needs g c = λ told starved.
     let is = subst (λ (l : Line). IsLine c.args.text.now l) c.in-Ok-Event.field-0-is c.in-Ok-Event.ensures.line in
     starves _ _ _ c.args.text.now _ _ _ _ c.in-Ok-Event.event is
-    (c.handle_event.ensures.needs told starved c.args.text.now is)
+    (c.handle_event-handled.ensures.needs told starved c.args.text.now is)
 
 pub returns-in-Err-NotALine-clause-needs : goal.returns-in-Err-NotALine-clause-needs
 returns-in-Err-NotALine-clause-needs g c = λ told starved.

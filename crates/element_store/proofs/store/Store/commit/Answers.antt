@@ -166,7 +166,7 @@ returns-in-Err-OutOfMemory-clause-memory g c =
     let back : HandsBack c.args.beside (OutOfMemory c.in-Err-OutOfMemory.beside)
     (c.write_contents.new.disk ≡ c.args.disk.now) =
     rw c.in-Err-OutOfMemory.field-0-is at c.in-Err-OutOfMemory.ensures.memory in
-    (ap (λ beside. (c.args.self, beside)) back.0, back.1)
+    (ap (λ beside. (c.args.self, c.args.changes, beside)) back.0, back.1)
 
 pub returns-in-Err-OutOfMemory-clause-cause : goal.returns-in-Err-OutOfMemory-clause-cause
 returns-in-Err-OutOfMemory-clause-cause g c = λ bad. absurd bad

@@ -2,7 +2,7 @@ use Rattle.std.proofs.Common.{◌≡◌, ◌∙◌, ap}
 use Rattle.value_text.specs.Texts.{hex_text}
 use Rattle.value_text.specs.Whole.{bytes_in}
 use Rattle.value_text.specs.lemmas.WholeLaws.{bytes_in_takes, bytes_in_again, found, only}
-use Rattle.value_text.proofs.whole.parse_hex.Goals as goal
+use Rattle.value_text.proofs.whole.parse_hex_reusing.Goals as goal
 
 pub returns-clause-found : goal.returns-clause-found
 returns-clause-found c =

@@ -1,7 +1,7 @@
 use Rattle.std.proofs.Common.{◌≡◌, length, ◌-◌}
 use Rattle.per_base.specs.FieldLoops.{with_front}
 use Rattle.value_text.specs.Readers.{hex_bytes_at}
-use Rattle.value_text.proofs.strings.bytes_at.Given as goal
+use Rattle.value_text.proofs.strings.bytes_reusing.Given as goal
 
 -- the bytes so far, and those of what is left
 abbrev pub invariant-loop : goal.invariant-loop

@@ -1,6 +1,6 @@
 use Rattle.std.proofs.Common.{length, ◌-◌}
 use Rattle.value_text.proofs.Hex.{no_byte, one_byte, all_bytes}
-use Rattle.value_text.proofs.strings.bytes_at.Goals as goal
+use Rattle.value_text.proofs.strings.bytes_reusing.Goals as goal
 
 pub returns-in_default : goal.returns-in_default
 returns-in_default c = rw c.new.ensures (no_byte c.loop.found.items (length c.args.bytes.now - c.loop.counter)
