@@ -7,3 +7,5 @@ pub mod Counting
 pub mod First
 pub mod States
 pub mod Shared
+pub mod Pieces
+pub mod Looked

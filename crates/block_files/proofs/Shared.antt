@@ -1,5 +1,5 @@
 -- What copies give, with the first content kept once.
-use Rattle.std.proofs.Common.{◌≡◌, ℕ, List, [], ◌∷◌, ◌++◌, Option, Some, None, map, refl, sym, ap, ◌∙◌}
+use Rattle.std.proofs.Common.{◌≡◌, ◌≢◌, ℕ, List, [], ◌∷◌, ◌++◌, Option, Some, None, map, refl, ap, ◌∙◌}
 use Rattle.std.specs.List.{AllByRecursion}
 use Rattle.std.proofs.lemmas.List.{map_push}
 use Rattle.block_files.specs.declared.texts.Given.{Given}
@@ -51,6 +51,12 @@ pub pushed_later : (first : Option (List ℕ)) (bytes : List ℕ) (given : List 
     → AreGiven first given → AreGiven first (given ++ one ∷ [])
 pushed_later None bytes given one is are = absurd cc
 pushed_later (Some kept) bytes given one is are = more (Some kept) given one ∙ rw are refl
+
+-- one that gives what it gives
+pub pushed_again : (first : Option (List ℕ)) (given : List Given)
+    → first_content (map (given_in first) given) ≢ None → AreGiven first given → AreGiven first (given ++ First ∷ [])
+pushed_again None given some are = absurd (some (first_is None given are))
+pushed_again (Some bytes) given some are = pushed_later (Some bytes) bytes given First refl are
 
 -- what is seen once the first is kept
 pub seen_first : (bytes : List ℕ) (given : List Given) (old : List (Option (List ℕ))) → AreGiven None given

@@ -1,5 +1,5 @@
 -- Contents in parts of 256 bytes, one for each block, and which parts differ from those of an earlier content.
-use Rattle.std.specs.Prelude.{◌≡◌, ℕ, zero, suc, ◌+◌, ◌*◌, ◌<◌, List, length, slice_index, Bool, not, cond}
+use Rattle.std.specs.Prelude.{◌≡◌, ℕ, zero, suc, ◌+◌, ◌<◌, List, length, slice_index, Bool, not, cond}
 use Rattle.std.specs.Str.{bytes_eq}
 use Rattle.per_base.specs.Contents.{blocks_for}
 use Rattle.changed_runs.specs.Changed.{run_of}

@@ -11,7 +11,8 @@
 //! not run out of memory half way chooses blocks first, by [`reserve_blob`] or [`reserve_shared`], and then writes
 //! without memory, by [`write_blob`] or [`write_shared`].
 //!
-//! Blocks that follow one another are read, and written, by one call of the disk.
+//! Blocks that follow one another are read, and written, by one call of the disk. Once a copy counts, each further one
+//! is compared with it by 64 KiB, and read whole only where it differs.
 //!
 //! Limits: nothing here calls sync, so a content is durable after the caller's next one. No block is given back by
 //! these calls.

@@ -1,7 +1,7 @@
 //! What the copies of a content hold.
 
-ghost use Rattle.std.specs.Prelude.{◌≡◌, ◌≢◌, ◌<◌, ◌≤◌, ◌+◌, ◌*◌, ℕ, IsTrue, IfOk, IfSome, OnOk, OnErr, IsErrOf};
-ghost use Rattle.std.specs.Prelude.{length, map, min, slice_index, None};
+ghost use Rattle.std.specs.Prelude.{◌≡◌, ◌≢◌, ◌<◌, ◌≤◌, ◌+◌, ◌*◌, ◌↔◌, ℕ, IsTrue, IfOk, IfSome, IsSomeAnd, OnOk, OnErr};
+ghost use Rattle.std.specs.Prelude.{IsErrOf, length, map, min, take, drop, slice_index, None};
 ghost use Rattle.std.specs.List.{range_with_len};
 ghost use Rattle.std.specs.Option.{option_map};
 ghost use Rattle.per_base.specs.Causes.{Rose};
@@ -18,7 +18,13 @@ use crate::texts::Texts;
 use disk_model::{Disk, DiskFailed, Place};
 use per_base::BLOCK;
 use sha2::Sha256;
-use std::alloc::{AllocError, Global};
+use std::alloc::Global;
+
+/// How many bytes of a further copy are compared at a time.
+const PIECE: usize = 65_536;
+
+/// In how many blocks those are.
+const PIECE_BLOCKS: usize = 256;
 
 /// What each copy of a content gives, in order: its bytes where they have the hash, and whether its file has them all.
 #[derive(Drop)]
@@ -38,7 +44,8 @@ struct ReadText {
     states: Vec<Sha256>,
 }
 
-// Looks at every copy of a content.
+// Looks at every copy of a content. Once a copy counts, each further one is compared with it piece by piece, and read
+// whole only where it differs.
 pub(crate) fn look<D: Disk>(
     alloc: Global,
     disk: &mut D,
@@ -65,12 +72,16 @@ pub(crate) fn look<D: Disk>(
     let mut texts = Texts::new(alloc);
     let mut inside = Vec::new(alloc);
     let mut states = Vec::new(alloc);
-    let mut spare = None;
+    let mut room = Vec::new(alloc);
     for copy in 0..place.copies {
         let file = place.area(copy);
-        let read = read_text(alloc, disk, file, blocks, len, hash, spare)?;
-        states = first_states(&texts, states, read.states);
-        spare = texts.push(read.text)?;
+        if has_first(disk, file, blocks, &texts, &mut room)? {
+            texts.push_first()?;
+        } else {
+            let read = read_text(alloc, disk, file, blocks, len, hash)?;
+            states = first_states(&texts, states, read.states);
+            texts.push(read.text)?;
+        }
         let size = disk.size(file)?;
         inside.push(is_inside(size, blocks, len as usize))?;
     }
@@ -98,7 +109,90 @@ fn first_states(texts: &Texts, states: Vec<Sha256>, next: Vec<Sha256>) -> Vec<Sh
     }
 }
 
-// What one copy gives. Its bytes are read into what is spare, if there is room.
+// Whether a copy has the bytes of the first copy that counts. The room grows to a piece of them.
+fn has_first<D: Disk>(
+    disk: &mut D,
+    file: u32,
+    blocks: &[u32],
+    texts: &Texts,
+    room: &mut Vec<u8>,
+) -> Result<bool, BlobError>
+    requires { IfSome (first_content texts.now) (λ first. length first ≤ 256 * length blocks.now) }
+    ensures same { IsTrue D.told → IfOk result (λ same. IsTrue same ↔ IsSomeAnd (first_content texts.now)
+        (λ first. joined ((D.medium disk.old).image file) blocks.now (length first) ≡ first)) }
+    ensures some { IfOk result (λ same. IsTrue same → first_content texts.now ≢ None) }
+    ensures reads { OnlyReads (D.medium disk.old) (D.medium disk.new) }
+    ensures time { Elapses (D.medium disk.old) (D.medium disk.new) }
+    ensures cause { IsErrOf result BlobError.Device → Rose (D.medium disk.old).faults (D.medium disk.new).faults }
+    ensures passes { OnOk result ((D.medium disk.new).faults ≡ (D.medium disk.old).faults) }
+    ensures fed { IsErrOf result BlobError.OutOfMemory → (D.medium disk.new).faults ≡ (D.medium disk.old).faults }
+{
+    let Some(first) = texts.first() else {
+        return Ok(false);
+    };
+    room.resize(first.len().min(PIECE), 0)?;
+    let same = has_bytes(disk, file, blocks, first, room)?;
+    Ok(same)
+}
+
+// Whether the blocks have these bytes. A piece of them at a time is read into the room.
+fn has_bytes<D: Disk>(
+    disk: &mut D,
+    file: u32,
+    blocks: &[u32],
+    bytes: &[u8],
+    room: &mut [u8],
+) -> Result<bool, DiskFailed>
+    requires blocks { length bytes.now ≤ 256 * length blocks.now }
+    requires room { min (length bytes.now) 65536 ≤ length room.old }
+    ensures same { IsTrue D.told → IfOk result (λ same. IsTrue same
+        ↔ (joined ((D.medium disk.old).image file) blocks.now (length bytes.now) ≡ bytes.now)) }
+    ensures reads { OnlyReads (D.medium disk.old) (D.medium disk.new) }
+    ensures time { Elapses (D.medium disk.old) (D.medium disk.new) }
+    ensures cause { OnErr result (Rose (D.medium disk.old).faults (D.medium disk.new).faults) }
+    ensures passes { OnOk result ((D.medium disk.new).faults ≡ (D.medium disk.old).faults) }
+{
+    for i in 0..bytes.len().div_ceil(PIECE) {
+        let piece = piece_at(bytes, i);
+        if !has_piece(disk, file, &blocks[PIECE_BLOCKS * i..], piece, room)? {
+            return Ok(false);
+        }
+    }
+    Ok(true)
+}
+
+// The i-th piece of the bytes.
+fn piece_at(bytes: &[u8], i: usize) -> &[u8]
+    requires { 65536 * i ≤ length bytes.now }
+    ensures { result.now ≡ take 65536 (drop (65536 * i) bytes.now) }
+{
+    let rest = &bytes[PIECE * i..];
+    &rest[..PIECE.min(rest.len())]
+}
+
+// Whether the blocks begin with this piece, which has room.
+fn has_piece<D: Disk>(
+    disk: &mut D,
+    file: u32,
+    blocks: &[u32],
+    piece: &[u8],
+    room: &mut [u8],
+) -> Result<bool, DiskFailed>
+    requires blocks { length piece.now ≤ 256 * length blocks.now }
+    requires room { length piece.now ≤ length room.old }
+    ensures same { IsTrue D.told → IfOk result (λ same. IsTrue same
+        ↔ (joined ((D.medium disk.old).image file) blocks.now (length piece.now) ≡ piece.now)) }
+    ensures reads { OnlyReads (D.medium disk.old) (D.medium disk.new) }
+    ensures time { Elapses (D.medium disk.old) (D.medium disk.new) }
+    ensures cause { OnErr result (Rose (D.medium disk.old).faults (D.medium disk.new).faults) }
+    ensures passes { OnOk result ((D.medium disk.new).faults ≡ (D.medium disk.old).faults) }
+{
+    let read = &mut room[..piece.len()];
+    read_runs(disk, file, blocks, read)?;
+    Ok(*read == *piece)
+}
+
+// What one copy gives.
 fn read_text<D: Disk>(
     alloc: Global,
     disk: &mut D,
@@ -106,7 +200,6 @@ fn read_text<D: Disk>(
     blocks: &[u32],
     len: u32,
     hash: &[u8; 32],
-    spare: Option<Vec<u8>>,
 ) -> Result<ReadText, BlobError>
     ensures text { IsTrue D.told → IfOk result (λ read. option_map (λ t. t.items) read.text
         ≡ counting ((D.medium disk.old).image file) blocks.now len hash.now) }
@@ -118,7 +211,7 @@ fn read_text<D: Disk>(
     ensures passes { OnOk result ((D.medium disk.new).faults ≡ (D.medium disk.old).faults) }
     ensures fed { IsErrOf result BlobError.OutOfMemory → (D.medium disk.new).faults ≡ (D.medium disk.old).faults }
 {
-    let bytes = read_joined(alloc, disk, file, blocks, len as usize, spare)?;
+    let bytes = read_joined(alloc, disk, file, blocks, len as usize)?;
     let Hashed {
         hash: found,
         states,
@@ -139,7 +232,6 @@ fn read_joined<D: Disk>(
     file: u32,
     blocks: &[u32],
     len: usize,
-    spare: Option<Vec<u8>>,
 ) -> Result<Vec<u8>, BlobError>
     ensures bytes { IsTrue D.told → IfOk result (λ bytes. bytes.items
         ≡ joined ((D.medium disk.old).image file) blocks.now len) }
@@ -151,19 +243,9 @@ fn read_joined<D: Disk>(
     ensures fed { IsErrOf result BlobError.OutOfMemory → (D.medium disk.new).faults ≡ (D.medium disk.old).faults }
 {
     let size = len.min(blocks.len().saturating_mul(BLOCK));
-    let mut bytes = room(alloc, size, spare)?;
+    let mut bytes = vec![in alloc; 0; size]?;
     read_runs(disk, file, blocks, &mut bytes)?;
     Ok(bytes)
-}
-
-// That many bytes: those that are spare, where they are as many.
-fn room(alloc: Global, size: usize, spare: Option<Vec<u8>>) -> Result<Vec<u8>, AllocError>
-    ensures { IfOk result (λ bytes. length bytes.items ≡ size) }
-{
-    match spare {
-        Some(bytes) if bytes.len() == size => Ok(bytes),
-        _ => vec![in alloc; 0; size],
-    }
 }
 
 // Fills `out` with the bytes of the blocks, by one read for each run of blocks that follow one another.

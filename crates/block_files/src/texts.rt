@@ -1,6 +1,6 @@
 //! What the copies of a content give, in which equal bytes are kept once.
 
-ghost use Rattle.std.specs.Prelude.{◌≡◌, ◌++◌, ◌∷◌, [], IfOk, IsTrue, None, OnOk, length, map, slice_index_or};
+ghost use Rattle.std.specs.Prelude.{◌≡◌, ◌≢◌, ◌++◌, ◌∷◌, [], IfOk, None, OnOk, length, map, slice_index_or};
 ghost use Rattle.std.specs.Option.{option_copied, option_map};
 ghost use Rattle.block_files.specs.Contents.{first_content};
 ghost use Rattle.block_files.specs.Texts.{given_in};
@@ -51,30 +51,34 @@ impl Texts {
         }
     }
 
-    /// Adds what the next copy gives. Bytes that are kept already are handed back, so that there is room for those of
-    /// another copy.
-    pub(crate) fn push(&mut self, text: Option<Vec<u8>>) -> Result<Option<Vec<u8>>, AllocError>
+    /// Adds what the next copy gives.
+    pub(crate) fn push(&mut self, text: Option<Vec<u8>>) -> Result<(), AllocError>
         ensures { OnOk result (self.new ≡ self.old ++ option_map (λ t. t.items) text ∷ []) }
     {
         let Some(bytes) = text else {
             self.given.push(Given::Nothing)?;
-            return Ok(None);
+            return Ok(());
         };
         match &self.first {
             None => {
                 self.given.push(Given::First)?;
                 self.first = Some(bytes);
-                Ok(None)
-            }
-            Some(first) if is_same(first, &bytes) => {
-                self.given.push(Given::First)?;
-                Ok(Some(bytes))
+                Ok(())
             }
             Some(_) => {
                 self.given.push(Given::Other(bytes))?;
-                Ok(None)
+                Ok(())
             }
         }
+    }
+
+    /// Adds a copy that gives what the first gives that counts. Those bytes are not kept again.
+    pub(crate) fn push_first(&mut self) -> Result<(), AllocError>
+        requires { first_content self.old ≢ None }
+        ensures { OnOk result (self.new ≡ self.old ++ first_content self.old ∷ []) }
+    {
+        self.given.push(Given::First)?;
+        Ok(())
     }
 
     /// The first content that some copy gives.
@@ -122,11 +126,4 @@ impl Texts {
     {
         self.first
     }
-}
-
-// Whether both are the same bytes.
-fn is_same(first: &Vec<u8>, bytes: &Vec<u8>) -> bool
-    ensures { IsTrue result → first.now.items ≡ bytes.now.items }
-{
-    first.as_slice() == bytes.as_slice()
 }
