@@ -8,3 +8,4 @@ pub mod LineLaws
 pub mod Spelled
 pub mod Titles
 pub mod Frequent
+pub mod Carried
