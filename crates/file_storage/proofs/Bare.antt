@@ -12,7 +12,7 @@ use Rattle.per_base.specs.declared.elements.Element.{Element}
 use Rattle.per_base.specs.declared.elements.FileInfo.{FileInfo}
 use Rattle.per_base.specs.declared.elements.StoreKind.TheVariants as kinds
 use Rattle.per_base.specs.declared.errors.PerError.{PerError}
-use Rattle.per_base.specs.Changes.{changed_name, change_at, removal}
+use Rattle.per_base.specs.Changes.{changed_name, change_at}
 use Rattle.per_base.specs.Contents.{is_readable, readable_bytes}
 use Rattle.per_base.specs.Maps.{Map, element_at, names_of}
 use Rattle.per_base.specs.Names.{NamesAscend, name_cmp}

@@ -1,4 +1,5 @@
 pub mod Bare
+pub mod Copied
 pub mod Initials
 pub mod Keeping
 pub mod Making

@@ -1,5 +1,5 @@
 use Rattle.std.proofs.Common.{◌≡◌, ◌<◌, [], sym, ◌∙◌, ap, subst}
-use Rattle.std.specs.Prelude.{false, map}
+use Rattle.std.specs.Prelude.{false, map, true}
 use Rattle.deployment_model.specs.Data.{storage_data}
 use Rattle.element_state.specs.States.{Opens, greatest_generation}
 use Rattle.element_maps.specs.Storages.{IsStoring}
@@ -251,7 +251,7 @@ returns-in-Err-OutOfMemory-clause-memory g c =
     (c.commit.new.disk ≡ c.args.disk.now) =
     rw c.in-Err-OutOfMemory.field-0-is at c.in-Err-OutOfMemory.ensures.memory in
     let table : c.take_back.new.self ≡ c.self.inside.table =
-    c.take_back.ensures ∙ ap (λ given. taken_back given.1.1 given.1.0.items) back.0 ∙ c.lend.ensures.lent in
+    c.take_back.ensures ∙ ap (λ given. taken_back given.2 given.1.items) back.0 ∙ c.lend.ensures.lent in
     let whole : Store → Table → FilesInUse = λ store table. record {
       config = storage_data c.self.inside.config;
       store = store;
