@@ -5,6 +5,7 @@
 //! where that cannot be done, every later call of the disk fails.
 #![tactic(auto)]
 
+mod at_once;
 mod calls;
 mod disk;
 mod folder;
