@@ -4,7 +4,7 @@ ghost use Rattle.std.specs.Prelude.{◌≡◌, ◌≢◌, ◌⊎◌, ◌↔◌, 
 ghost use Rattle.std.specs.Prelude.{length, take, drop, min, List, [], true, false, filter, not, ◌==◌};
 ghost use Rattle.per_base.specs.Causes.{Rose};
 ghost use Rattle.disk_model.specs.Medium.{Quiet, Elapses, OnlyReads, WritesNothing};
-ghost use Rattle.system_model.specs.SystemMedium.{Looks, IsSafe, HasNothingFree, IsWhole, ShowsBytes};
+ghost use Rattle.system_model.specs.SystemMedium.{Looks, IsSafe, HasNothingFree, IsWhole, InRange, ShowsBytes};
 ghost use Rattle.folder_disk.specs.Knows.{Knows, Covered};
 ghost use Rattle.folder_disk.specs.Held.{HoldsFree, IsHeldByte, ShowsAll};
 
