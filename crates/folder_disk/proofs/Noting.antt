@@ -1,20 +1,19 @@
 -- What is known goes on to hold.
-use Rattle.std.proofs.Common.{◌≡◌, ◌≢◌, ◌⊎◌, ◌↔◌, ℕ, ◌≤◌, Bool, true, List, [], ◌∷◌, ◌++◌, length, take}
-use Rattle.std.proofs.Common.{refl, sym, ◌∙◌, ap, subst, inl, inr, ⊎_elim, le_refl, arith, true≢false}
+use Rattle.std.proofs.Common.{◌≡◌, ◌⊎◌, ◌↔◌, ℕ, ◌+◌, ◌≤◌, Bool, true, List, [], ◌∷◌, ◌++◌, length, take}
+use Rattle.std.proofs.Common.{get_or, refl, sym, ◌∙◌, ap, subst, inl, inr, ⊎_elim, le_refl, arith, true≢false}
 use Rattle.std.specs.Prelude.{IsTrue, IsFalse}
-use Rattle.std.proofs.lemmas.Bool.{cases_eq, cases_lt}
-use Rattle.std.proofs.lemmas.List.{ext_get_or, length-take-le}
-use Rattle.disk_model.specs.Image.{Image, put_image, Torn, TornImage}
+use Rattle.std.proofs.lemmas.List.{length-take-le}
+use Rattle.disk_model.specs.Image.{Image, put_image, put_bytes, TornImage}
 use Rattle.disk_model.specs.Case.{Case, Follows, WriteOrNot}
-use Rattle.disk_model.specs.Medium.{Medium, Elapses, OnlyReads}
-use Rattle.disk_model.specs.Written.{put_image_elsewhere, put_tears}
-use Rattle.disk_model.specs.Laws.{elapses_on, cases_on}
-use Rattle.system_model.specs.SystemMedium.{SystemMedium, IsSafe, IsWhole, InRange, AnnounceCase, Looks}
+use Rattle.disk_model.specs.Medium.{Medium, IsLawful, Elapses, OnlyReads}
+use Rattle.disk_model.specs.Written.{put_tears, put_image_here, put_inside, length-put_some}
+use Rattle.disk_model.specs.Laws.{elapses_on, cases_on, case_now}
+use Rattle.system_model.specs.SystemMedium.{SystemMedium, IsSafe, IsWhole, InRange, AnnounceCase}
+use Rattle.system_model.specs.SystemMedium.{ShowsBytes, Looks, SavesFiles}
 use Rattle.folder_disk.specs.declared.range.Range.{Range}
 use Rattle.folder_disk.specs.Knows.{Covered, Knows}
 use Rattle.folder_disk.specs.Writes.{WritesBytes, PutCase, PutsBytes}
 use Rattle.folder_disk.proofs.Tearing.{image_none, image_within}
-use Rattle.folder_disk.proofs.Putting.{put_image_none}
 
 pub covered_app : (xs : List Range) (r : Range) (f i : ℕ) → Covered (xs ++ r ∷ []) f i
     → Covered xs f i ⊎ ((f ≡ r.file) × InRange r.at r.len i)
@@ -33,17 +32,12 @@ pub covered_new : (xs : List Range) (r : Range) (f i : ℕ) → (f ≡ r.file) �
 covered_new [] r f i h = inl h
 covered_new (x ∷ xs) r f i h = inr (covered_new xs r f i h)
 
--- reads leave a file safe
-pub safe_reads : (a b : Medium) → OnlyReads a b → (f : ℕ) → IsSafe a f → IsSafe b f
-safe_reads a b reads f safe c now = safe c (reads.now c now) ∙ sym (ap (λ image. image f) reads.image)
-
 pub knows_looks : (told : Bool) (a b : SystemMedium) (rs : List Range) (fresh grown lost : Bool) → Looks a b
     → Knows told a rs fresh grown lost → Knows told b rs fresh grown lost
 knows_looks told a b rs fresh grown lost looks knows = record {
   whole = λ t l f i h. knows.whole t l f i (looks.lost f i h);
   free = λ t l f i h. (looks.free f i).1 (knows.free t l f i h);
   covers = λ t l n f i h. knows.covers t l n f i ((looks.free f i).0 h);
-  safe = λ t n f none. safe_reads a.disk b.disk looks.reads f (knows.safe t n f none);
   named = λ n g f. looks.named f (knows.named n g f);
 }
 
@@ -55,7 +49,6 @@ knows_made told a b rs fresh grown lost reads free less knows = record {
   whole = λ t l f i h. knows.whole t l f i (less f i h);
   free = λ t l f i h. (free f i).1 (knows.free t l f i h);
   covers = λ t l n f i h. knows.covers t l n f i ((free f i).0 h);
-  safe = λ t n f none. safe_reads a.disk b.disk reads f (knows.safe t n f none);
   named = λ n g f. absurd (true≢false g);
 }
 
@@ -68,17 +61,8 @@ knows_found told a b rs fresh grown lost reads named free less knows = record {
   whole = λ t l f i h. knows.whole t l f i (less f i h);
   free = λ t l f i h. (free f i).1 (knows.free t l f i h);
   covers = λ t l n f i h. knows.covers t l n f i ((free f i).0 h);
-  safe = λ t n f none. safe_reads a.disk b.disk reads f (knows.safe t n f none);
   named = λ n g f. named f (knows.named n g f);
 }
-
--- a write of no bytes tears nothing
-torn_zero : (at n : ℕ) (xs ys : List ℕ) → n ≡ 0 → Torn at n xs ys → ys ≡ xs
-torn_zero at n xs ys e torn =
-    let none : Torn at 0 xs ys = subst (λ k. Torn at k xs ys) e torn in
-    let long : length ys ≤ length xs = omega (arith, none.no_longer) in
-    ext_get_or 0 ys xs (omega (arith, long, none.no_shorter))
-    (λ i lt. none.kept i (omega (arith, long)) (⊎_elim (λ l. inl l) (λ g. inr (omega arith)) (cases_lt i at)))
 
 -- a write that was announced and done in part or whole
 module _ (told : Bool) (file at : ℕ) (bytes : List ℕ) (n : ℕ) (le : n ≤ length bytes) (a b c : SystemMedium)
@@ -138,25 +122,6 @@ module _ (told : Bool) (file at : ℕ) (bytes : List ℕ) (n : ℕ) (le : n ≤ 
     time = elapses_on time writes.time;
   }
 
-  -- a file that is not written into, or of which nothing is, stays safe
-  safe_put : IsTrue told → (f : ℕ) → (f ≢ file) ⊎ (n ≡ 0) → IsSafe a.disk f → IsSafe c.disk f
-  safe_put t f other safe x new =
-      let (e, old, step) = put_now x new in
-      let left : x.left f ≡ e.left f = ⊎_elim
-      (λ ne. step.left.others f ne)
-      (λ z. ⊎_elim
-      (λ same. subst (λ k. x.left k ≡ e.left k) (sym same)
-      (torn_zero at n (e.left file) (x.left file) z step.left.torn))
-      (λ ne. step.left.others f ne)
-      (cases_eq f file))
-      other in
-      let stays : c.disk.image f ≡ a.disk.image f = ⊎_elim
-      (λ ne. ap (λ i. i f) (puts.image t) ∙ put_image_elsewhere a.disk.image file at (take n bytes) f ne)
-      (λ z. ap (λ i. i f) (puts.image t ∙ put_image_none a.disk.image file at (take n bytes)
-      (length-take-le n bytes le ∙ z)))
-      other in
-      left ∙ safe e old ∙ sym stays
-
   module _ (rs : List Range) (fresh grown lost : Bool) (knows : Knows told a rs fresh grown lost)
       (named : (f : ℕ) → a.named f → b.named f)
       (free : (f i : ℕ) → b.free f i ↔ a.free f i) (less : (f i : ℕ) → b.lost f i → a.lost f i)
@@ -167,38 +132,77 @@ module _ (told : Bool) (file at : ℕ) (bytes : List ℕ) (n : ℕ) (le : n ≤ 
     of_new : (f i : ℕ) → (f ≡ file) × InRange at n i → (f ≡ r.file) × InRange r.at r.len i
     of_new f i h = (h.0 ∙ sym r_file, (omega (arith, h.1.0, r_at), omega (arith, h.1.1, r_at, r_len)))
 
-    -- the write was noted
-    pub knows_noted : (noted : List Range)
-        → ((f i : ℕ) → Covered noted f i ↔ (Covered rs f i ⊎ ((f ≡ r.file) × InRange r.at r.len i)))
-        → Knows told c noted fresh grown lost
-    knows_noted noted both = record {
+    -- with what was written
+    pub knows_written : Knows told c (r ∷ rs) fresh grown lost
+    knows_written = record {
       whole = λ t l f i h. knows.whole t l f i (less f i (writes.lost f i h));
       free = λ t l f i h. (writes.frees t f i).1 (⊎_elim
-          (λ old. inl ((free f i).1 (knows.free t l f i old)))
           (λ new. inr (in_new f i new))
-          ((both f i).0 h));
-      covers = λ t l s f i h. (both f i).1 (⊎_elim
-          (λ old. inl (knows.covers t l s f i ((free f i).0 old)))
-          (λ new. inr (of_new f i new))
-          ((writes.frees t f i).0 h));
-      safe = λ t s f none. safe_put t f (⊎_elim
-          (λ z. inr z)
-          (λ some. inl (λ same. none at ((both f at).1 (inr (of_new f at (same, (le_refl _, omega arith)))))))
-          (cases_eq n 0))
-          (knows.safe t s f (λ i old. none i ((both f i).1 (inl old))));
+          (λ old. inl ((free f i).1 (knows.free t l f i old)))
+          h);
+      covers = λ t l s f i h. ⊎_elim
+          (λ old. inr (knows.covers t l s f i ((free f i).0 old)))
+          (λ new. inl (of_new f i new))
+          ((writes.frees t f i).0 h);
       named = λ s g f. writes.named f (named f (knows.named s g f));
     }
 
-    -- there was no memory to note it
-    pub knows_unnoted : (noted : List Range) → ((f i : ℕ) → Covered noted f i → Covered rs f i)
-        → Knows told c noted true grown lost
-    knows_unnoted noted fewer = record {
-      whole = λ t l f i h. knows.whole t l f i (less f i (writes.lost f i h));
-      free = λ t l f i h. (writes.frees t f i).1 (inl ((free f i).1 (knows.free t l f i (fewer f i h))));
-      covers = λ t l s. absurd (true≢false s);
-      safe = λ t s. absurd (true≢false s);
-      named = λ s. absurd (true≢false s);
+-- calls that only read after such a write
+pub puts_on : (told : Bool) (file at : ℕ) (bytes : List ℕ) (n : ℕ) (law : Bool) (a b c : Medium) → IsLawful law b
+    → PutsBytes told file at bytes n a b → OnlyReads b c → Elapses b c → PutsBytes told file at bytes n a c
+puts_on told file at bytes n law a b c is puts reads time = record {
+  image = λ t. reads.image ∙ puts.image t;
+  now = λ x now. puts.now x (reads.now x now);
+  during = λ x past. ⊎_elim
+      (λ first. puts.during x first)
+      (λ next. puts.during x (case_now is puts.time x (reads.during x next)))
+      (cases_on puts.time time x past);
+  time = elapses_on puts.time time;
+}
+
+-- what was written shows
+pub shows_put : (old new : Image) (file at : ℕ) (bytes : List ℕ) → new ≡ put_image old file at bytes
+    → ShowsBytes (new file) at bytes
+shows_put old new file at bytes is =
+    let here : new file ≡ put_bytes (old file) at bytes = ap (λ (i : Image). i file) is ∙ put_image_here old file at bytes
+    in record {
+      within = λ j lt.
+          let long = length-put_some (old file) at bytes (λ none. omega (arith, none, lt)) in
+          let same = ap length here in
+          omega (arith, lt, long, same);
+      equal = λ j lt. ap (λ xs. get_or xs (at + j) 0) here ∙ put_inside (old file) at bytes j lt;
     }
+
+-- what is known goes on where the same is covered
+pub knows_same : (told : Bool) (m : SystemMedium) (xs ys : List Range) (fresh grown lost : Bool)
+    → ((f i : ℕ) → Covered ys f i ↔ Covered xs f i) → Knows told m xs fresh grown lost
+    → Knows told m ys fresh grown lost
+knows_same told m xs ys fresh grown lost same knows = record {
+  whole = knows.whole;
+  free = λ t l f i h. knows.free t l f i ((same f i).0 h);
+  covers = λ t l s f i h. (same f i).1 (knows.covers t l s f i h);
+  named = knows.named;
+}
+
+-- and a disk that covers less is a fresh one
+pub knows_less : (told : Bool) (m : SystemMedium) (xs ys : List Range) (fresh grown lost : Bool)
+    → ((f i : ℕ) → Covered ys f i → Covered xs f i) → Knows told m xs fresh grown lost
+    → Knows told m ys true grown lost
+knows_less told m xs ys fresh grown lost less knows = record {
+  whole = knows.whole;
+  free = λ t l f i h. knows.free t l f i (less f i h);
+  covers = λ t l s. absurd (true≢false s);
+  named = λ s. absurd (true≢false s);
+}
+
+-- a range goes in front as well as at the end
+pub covered_swapped : (xs : List Range) (ys : List Range) (r : Range)
+    → ((f i : ℕ) → Covered ys f i ↔ (Covered xs f i ⊎ ((f ≡ r.file) × InRange r.at r.len i)))
+    → (f i : ℕ) → Covered ys f i ↔ Covered (r ∷ xs) f i
+covered_swapped xs ys r both f i = (
+  λ h. ⊎_elim (λ old. inr old) (λ new. inl new) ((both f i).0 h),
+  λ h. (both f i).1 (⊎_elim (λ new. inr new) (λ old. inl old) h),
+)
 
 -- the first of the bytes are one way to tear a write
 pub part_torn : (image : Image) (file at : ℕ) (bytes : List ℕ) (n : ℕ) → n ≤ length bytes
@@ -250,6 +254,12 @@ knows_fresh told m grown lost whole = record {
   whole = whole;
   free = λ t l f i h. absurd h;
   covers = λ t l s. absurd (true≢false s);
-  safe = λ t s. absurd (true≢false s);
   named = λ s. absurd (true≢false s);
 }
+
+-- where nothing is noted every file is safe
+pub all_safe : (told : Bool) (m : SystemMedium) (rs : List Range) (fresh grown lost : Bool) → SavesFiles m
+    → Knows told m rs fresh grown lost → IsFalse fresh → IsFalse lost → ((f : ℕ) → m.named f) → rs ≡ [] → IsTrue told
+    → (f : ℕ) → IsSafe m.disk f
+all_safe told m rs fresh grown lost saves knows s l names none t f = saves f (knows.whole t l f)
+    (λ i free. subst (λ xs. Covered xs f i) none (knows.covers t l s f i free)) (names f)

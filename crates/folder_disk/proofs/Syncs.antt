@@ -5,15 +5,12 @@ use Rattle.std.proofs.Common.{refl, sym, ◌∙◌, ap, subst, inl, inr, ⊎_eli
 use Rattle.std.specs.Prelude.{IsTrue, IsFalse, Contains, filter}
 use Rattle.std.proofs.lemmas.Bool.{cases_eq}
 use Rattle.std.proofs.lemmas.List.{drop_more, take_more, length-drop, take_at, get_or-take, get_or-drop}
-use Rattle.disk_model.specs.Medium.{Elapses, OnlyReads}
-use Rattle.system_model.specs.SystemMedium.{SystemMedium, IsSafe, IsWhole, HasNothingFree, InRange, ShowsBytes}
+use Rattle.system_model.specs.SystemMedium.{SystemMedium, IsWhole, HasNothingFree, InRange, ShowsBytes}
 use Rattle.folder_disk.specs.declared.range.Range.{Range}
 use Rattle.folder_disk.specs.declared.held.Held.{Held}
 use Rattle.folder_disk.specs.Knows.{Covered, Knows}
-use Rattle.folder_disk.specs.Held.{IsHeldByte, ShowsAll, HoldsFree}
-use Rattle.folder_disk.proofs.Noting.{safe_reads, covered_app, covered_old, covered_new}
-use Rattle.folder_disk.specs.Writes.{WritesAgain, WritesBytes}
-use Rattle.disk_model.specs.Laws.{reads_on}
+use Rattle.folder_disk.specs.Held.{IsHeldByte, ShowsAll}
+use Rattle.folder_disk.proofs.Noting.{covered_app, covered_old, covered_new}
 
 -- ---- lists
 
@@ -87,17 +84,15 @@ filter_shorter (r ∷ rs) file = keep_shorter (others_of file r) r rs (filter (o
 -- ---- syncs
 
 module _ (told : Bool) (a b : SystemMedium) (file : ℕ) (rs : List Range) (fresh grown lost : Bool)
-    (knows : Knows told a rs fresh grown lost) (f_is : IsFalse fresh) (l_is : IsFalse lost)
-    (names : (f : ℕ) → a.named f)
-    (reads : OnlyReads a.disk b.disk) (named : (f : ℕ) → a.named f → b.named f)
+    (knows : Knows told a rs fresh grown lost) (l_is : IsFalse lost)
+    (named : (f : ℕ) → a.named f → b.named f)
     (others : IsTrue told → (f i : ℕ) → f ≢ file → (b.lost f i → a.lost f i) × (b.free f i ↔ a.free f i)) where
   -- a good sync
-  pub knows_synced : (IsTrue told → IsWhole a file → a.named file → IsSafe b.disk file)
-      → (IsTrue told → IsWhole a file → HasNothingFree b file)
+  pub knows_synced : (IsTrue told → IsWhole a file → HasNothingFree b file)
       → (IsTrue told → (f i : ℕ) → b.lost f i → a.lost f i)
       → (IsTrue told → (f i : ℕ) → b.free f i → a.free f i)
       → Knows told b (filter (others_of file) rs) fresh grown lost
-  knows_synced safe still kept no_more = record {
+  knows_synced still kept no_more = record {
     whole = λ t l f i h. knows.whole t l f i (kept t f i h);
     free = λ t l f i h. ⊎_elim
         (λ same. absurd (covered_other rs file i (subst (λ k. Covered (filter (others_of file) rs) k i) same h)))
@@ -107,19 +102,14 @@ module _ (told : Bool) (a b : SystemMedium) (file : ℕ) (rs : List Range) (fres
         (λ same. absurd (still t (knows.whole t l file) i (subst (λ k. b.free k i) same h)))
         (λ ne. covered_keep rs file f i ne (knows.covers t l s f i (no_more t f i h)))
         (cases_eq f file);
-    safe = λ t s f none. ⊎_elim
-        (λ same. subst (λ k. IsSafe b.disk k) (sym same) (safe t (knows.whole t l_is file) (names file)))
-        (λ ne. safe_reads a.disk b.disk reads f (knows.safe t s f
-        (λ i h. none i (covered_keep rs file f i ne h))))
-        (cases_eq f file);
-    named = λ s g f. named f (names f);
+    named = λ s g f. named f (knows.named s g f);
   }
 
   -- a sync that failed, after which what it may have dropped was written again
-  module _ (c : SystemMedium) (held : List Held) (holds : IsTrue told → HoldsFree a file held)
+  module _ (c : SystemMedium)
       (failed : IsTrue told → (i : ℕ) → (b.free file i ↔ a.free file i) × (b.lost file i → a.free file i ⊎ a.lost
       file i))
-      (again : OnlyReads a.disk c.disk) (named' : (f : ℕ) → b.named f → c.named f)
+      (named' : (f : ℕ) → b.named f → c.named f)
       (free' : IsTrue told → (f i : ℕ) → c.free f i ↔ b.free f i) (less : (f i : ℕ) → c.lost f i → b.lost f i) where
     free_same : IsTrue told → (f i : ℕ) → c.free f i ↔ a.free f i
     free_same t f i = ⊎_elim
@@ -133,21 +123,20 @@ module _ (told : Bool) (a b : SystemMedium) (file : ℕ) (rs : List Range) (fres
         ))
         (cases_eq f file)
 
-    pub knows_back : (IsTrue told → (i : ℕ) → IsHeldByte held i → ¬ (c.lost file i)) → Knows told c rs fresh grown lost
+    pub knows_back : (IsTrue told → (i : ℕ) → a.free file i → ¬ (c.lost file i)) → Knows told c rs fresh grown lost
     knows_back found = record {
       whole = λ t l f i h. ⊎_elim
           (λ same.
           let here = subst (λ k. c.lost k i) same h in
           ⊎_elim
-          (λ free. found t i ((holds t).all i free) here)
+          (λ free. found t i free here)
           (λ was. knows.whole t l file i was)
           ((failed t i).1 (less file i here)))
           (λ ne. knows.whole t l f i ((others t f i ne).0 (less f i h)))
           (cases_eq f file);
       free = λ t l f i h. (free_same t f i).1 (knows.free t l f i h);
       covers = λ t l s f i h. knows.covers t l s f i ((free_same t f i).0 h);
-      safe = λ t s f none. safe_reads a.disk c.disk again f (knows.safe t s f none);
-      named = λ s g f. named' f (named f (names f));
+      named = λ s g f. named' f (named f (knows.named s g f));
     }
 
     -- or could not be
@@ -156,9 +145,20 @@ module _ (told : Bool) (a b : SystemMedium) (file : ℕ) (rs : List Range) (fres
       whole = λ t l. absurd (true≢false l);
       free = λ t l. absurd (true≢false l);
       covers = λ t l. absurd (true≢false l);
-      safe = λ t s f none. safe_reads a.disk c.disk again f (knows.safe t s f none);
-      named = λ s g f. named' f (named f (names f));
+      named = λ s g f. named' f (named f (knows.named s g f));
     }
+
+    -- one or the other
+    pub knows_tried : (back : Bool) → (IsTrue back → IsTrue told → (i : ℕ) → a.free file i → ¬ (c.lost file i))
+        → Knows told c rs fresh grown (not back)
+    knows_tried true found = subst (λ l. Knows told c rs fresh grown l) l_is (knows_back (found refl))
+    knows_tried false found = knows_lost
+
+-- what a sync of the file of the first range forgets
+pub filter_first : (r : Range) (rs : List Range)
+    → filter (others_of r.file) (r ∷ rs) ≡ filter (others_of r.file) rs
+filter_first r rs = ap (λ b. cond (not b) (r ∷ filter (others_of r.file) rs) (filter (others_of r.file) rs))
+    (eq-eqb r.file r.file refl)
 
 -- ---- what was held
 
@@ -216,37 +216,6 @@ part_next hs k d bytes lt is same i h = ⊎_elim
     (λ new. inr (subst (λ xs. InRange d.at (length xs) i) (sym same)
     (subst (λ (x : Held). InRange x.at (length x.bytes.items) i) (sym is) new)))
     (held_next hs k d i lt h)
-
--- a part of what was held is written once more
-module _ (told : Bool) (file : ℕ) (old mid new : SystemMedium) (hs : List Held) (k : ℕ) (d : Held) (bytes : List ℕ)
-    (n : ℕ) (lt : k < length hs) (is : d ≡ get_or hs k d) (same : bytes ≡ d.bytes.items) (le : n ≤ length bytes)
-    (holds : IsTrue told → HoldsFree old file hs)
-    (reads : OnlyReads old.disk mid.disk) (time : Elapses old.disk mid.disk)
-    (free : IsTrue told → (f i : ℕ) → mid.free f i ↔ old.free f i)
-    (writes : WritesBytes told file d.at bytes n mid new) (again : WritesAgain told file d.at bytes mid new) where
-  pub back_reads : OnlyReads old.disk new.disk
-  back_reads = reads_on time reads writes.time
-      (again
-      (λ t i range. (free t file i).1 ((holds t).free i (part_held hs k d bytes lt is same i range)))
-      (λ t. subst (λ image. ShowsBytes (image file) d.at bytes) (sym reads.image)
-      (part_of (old.disk.image file) hs k d bytes lt is same (holds t).shows)))
-
-  pub back_free : IsTrue told → (f i : ℕ) → new.free f i ↔ old.free f i
-  back_free t f i = (
-    λ h. ⊎_elim
-        (λ was. (free t f i).0 was)
-        (λ new. subst (λ x. old.free x i) (sym new.0) ((holds t).free i (part_held hs k d bytes lt is same i
-        (new.1.0, omega (arith, new.1.1, le)))))
-        ((writes.frees t f i).0 h),
-    λ h. (writes.frees t f i).1 (inl ((free t f i).1 h)),
-  )
-
-  pub back_found : (IsTrue told → (i : ℕ) → IsHeldByte (take k hs) i → ¬ (mid.lost file i)) → length bytes ≤ n
-      → IsTrue told → (i : ℕ) → IsHeldByte (take (k + 1) hs) i → ¬ (new.lost file i)
-  back_found found all t i h lost = ⊎_elim
-      (λ was. found t i was (writes.lost file i lost))
-      (λ here. writes.found t i (here.0, omega (arith, here.1, all)) lost)
-      (part_next hs k d bytes lt is same i h)
 
 keep_suc : (b : Bool) (r : Range) (ts : List Range) → length (cond b (r ∷ ts) ts) ≤ suc (length ts)
 keep_suc true r ts = omega arith

@@ -12,7 +12,7 @@ ghost use Rattle.folder_disk.specs.Knows.{Knows};
 ghost use Rattle.folder_disk.specs.FolderView.{counted};
 ghost use Rattle.folder_disk.specs.Writes.{PutsBytes, PutCase};
 
-use crate::notes::{is_full, note};
+use crate::notes::is_full;
 use crate::opened::Opened;
 use crate::range::Range;
 use crate::reading::read_all;
@@ -186,6 +186,7 @@ impl<S: System> Folder<S> {
         requires knows { Knows S.told (S.medium self.old.system) self.old.ranges.items self.old.is_fresh
             self.old.is_grown self.old.is_lost }
         requires lost { IsFalse self.old.is_lost }
+        ensures lost { OnOk result (IsFalse self.new.is_lost) }
         ensures reads { OnlyReads (S.medium self.old.system).disk (S.medium self.new.system).disk }
         ensures time { Elapses (S.medium self.old.system).disk (S.medium self.new.system).disk }
         ensures knows { Knows S.told (S.medium self.new.system) self.new.ranges.items self.new.is_fresh
@@ -235,6 +236,7 @@ impl<S: System> Folder<S> {
             self.old.is_grown self.old.is_lost }
         requires lost { IsFalse self.old.is_lost }
         requires none { IsTrue S.told → (S.medium self.old.system).disk.image file ≡ [] }
+        ensures lost { OnOk result (IsFalse self.new.is_lost) }
         ensures reads { OnlyReads (S.medium self.old.system).disk (S.medium self.new.system).disk }
         ensures time { Elapses (S.medium self.old.system).disk (S.medium self.new.system).disk }
         ensures knows { Knows S.told (S.medium self.new.system) self.new.ranges.items self.new.is_fresh
@@ -251,11 +253,13 @@ impl<S: System> Folder<S> {
         }
     }
 
-    /// Writes the bytes, or some of the first of them. Where that is not even begun, nothing changes.
+    /// Writes the bytes, or some of the first of them, and notes that or syncs it. Where that is not even begun, nothing
+    /// changes.
     fn put(&mut self, file: u32, at: u64, bytes: &[u8]) -> io::Result<Progress>
         requires fits { at + length bytes.now < 2 ^ 64 }
         requires knows { Knows S.told (S.medium self.old.system) self.old.ranges.items self.old.is_fresh
             self.old.is_grown self.old.is_lost }
+        requires lost { IsFalse self.old.is_lost }
         ensures count { IfOk result (λ progress. progress.done ≤ length bytes.now) }
         ensures puts { IfOk result (λ progress. PutsBytes S.told file at bytes.now progress.done
             (S.medium self.old.system).disk (S.medium self.new.system).disk) }
@@ -267,15 +271,7 @@ impl<S: System> Folder<S> {
     {
         self.system.announce(file, at, bytes)?;
         let progress = write_all(&mut self.system, file, at, bytes);
-        let range = Range {
-            file,
-            at,
-            len: progress.done as u64,
-        };
-        if note(&mut self.ranges, range) {
-            return Ok(progress);
-        }
-        self.is_fresh = true;
+        self.cover(file, at, &bytes[..progress.done]);
         Ok(progress)
     }
 
@@ -314,6 +310,9 @@ impl<S: System> Folder<S> {
         };
         if progress.done < bytes.len() {
             return Err(self.failed(Asked::Write, Part::File(file), reason(progress)));
+        }
+        if self.is_lost {
+            return Err(self.fault());
         }
         self.written = written;
         Ok(())

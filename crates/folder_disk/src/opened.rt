@@ -287,8 +287,6 @@ impl<S: System> Opened<S> {
 
     /// Syncs an open file, as the system does.
     pub(crate) fn sync_file(&mut self, file: u32) -> io::Result<()>
-        ensures safe { IsTrue S.told → OnOk result (IsWhole (S.medium self.old) file
-            → (S.medium self.old).named file → IsSafe (S.medium self.new).disk file) }
         ensures still { IsTrue S.told → OnOk result (IsWhole (S.medium self.old) file
             → HasNothingFree (S.medium self.new) file) }
         ensures kept { IsTrue S.told → OnOk result ((f i : ℕ) → (S.medium self.new).lost f i

@@ -4,7 +4,7 @@ ghost use Rattle.std.specs.Prelude.{◌≡◌, ◌≢◌, ◌⊎◌, ◌↔◌, 
 ghost use Rattle.std.specs.Prelude.{length, take, drop, min, List, [], true, false, filter, not, ◌==◌};
 ghost use Rattle.per_base.specs.Causes.{Rose};
 ghost use Rattle.disk_model.specs.Medium.{Quiet, Elapses, OnlyReads, WritesNothing};
-ghost use Rattle.system_model.specs.SystemMedium.{Looks, IsSafe, HasNothingFree, IsWhole, ShowsBytes};
+ghost use Rattle.system_model.specs.SystemMedium.{Looks, IsSafe, HasNothingFree, IsWhole, InRange, ShowsBytes};
 ghost use Rattle.folder_disk.specs.Knows.{Knows, Covered};
 ghost use Rattle.folder_disk.specs.Held.{HoldsFree, IsHeldByte, ShowsAll};
 
@@ -20,7 +20,7 @@ use std::alloc::{AllocError, Global};
 use std::{io, mem};
 use system_model::{Asked, Part, System};
 
-/// Writes once more what a failed sync may have dropped, and says whether all of it was written.
+/// Writes once more what was held, and says whether all of it was written.
 pub(crate) fn put_back<S: System>(system: &mut Opened<S>, file: u32, held: &[Held]) -> bool
     requires { IsTrue S.told → HoldsFree (S.medium system.old) file held.now }
     ensures reads { OnlyReads (S.medium system.old).disk (S.medium system.new).disk }
@@ -32,16 +32,35 @@ pub(crate) fn put_back<S: System>(system: &mut Opened<S>, file: u32, held: &[Hel
         → ¬ ((S.medium system.new).lost file i) }
 {
     for part in held {
-        let bytes = part.bytes.as_slice();
-        if part.at.checked_add(bytes.len() as u64).is_none() {
-            return false;
-        }
-        let progress = write_all(system, file, part.at, bytes);
-        if progress.done < bytes.len() {
+        if !write_back(system, file, part.at, part.bytes.as_slice()) {
             return false;
         }
     }
     true
+}
+
+/// Writes once more what is there and is free anyway, and says whether all of it was written.
+pub(crate) fn write_back<S: System>(
+    system: &mut Opened<S>,
+    file: u32,
+    at: u64,
+    bytes: &[u8],
+) -> bool
+    requires free { IsTrue S.told → (i : ℕ) → InRange at (length bytes.now) i → (S.medium system.old).free file i }
+    requires shows { IsTrue S.told → ShowsBytes ((S.medium system.old).disk.image file) at bytes.now }
+    ensures reads { OnlyReads (S.medium system.old).disk (S.medium system.new).disk }
+    ensures time { Elapses (S.medium system.old).disk (S.medium system.new).disk }
+    ensures named { (f : ℕ) → (S.medium system.old).named f → (S.medium system.new).named f }
+    ensures free { IsTrue S.told → (f i : ℕ) → (S.medium system.new).free f i ↔ (S.medium system.old).free f i }
+    ensures lost { (f i : ℕ) → (S.medium system.new).lost f i → (S.medium system.old).lost f i }
+    ensures found { IsTrue S.told → IsTrue result → (i : ℕ) → InRange at (length bytes.now) i
+        → ¬ ((S.medium system.new).lost file i) }
+{
+    if at.checked_add(bytes.len() as u64).is_none() {
+        return false;
+    }
+    let progress = write_all(system, file, at, bytes);
+    progress.done == bytes.len()
 }
 
 impl<S: System> Folder<S> {
@@ -129,7 +148,6 @@ impl<S: System> Folder<S> {
         requires ranges { self.old.ranges.items ≡ [] }
         requires fresh { IsTrue self.old.is_fresh }
         requires lost { IsFalse self.old.is_lost }
-        ensures safe { IsTrue S.told → OnOk result (IsSafe (S.medium self.new.system).disk file) }
         ensures still { IsTrue S.told → OnOk result (HasNothingFree (S.medium self.new.system) file) }
         ensures no_more { IsTrue S.told → OnOk result ((f i : ℕ) → (S.medium self.new.system).free f i
             → (S.medium self.old.system).free f i) }
@@ -168,6 +186,8 @@ impl<S: System> Folder<S> {
         requires fresh { IsFalse self.old.is_fresh }
         requires lost { IsFalse self.old.is_lost }
         ensures holds { IsTrue S.told → IfOk result (λ held. HoldsFree (S.medium self.new.system) file held.items) }
+        ensures all { IsTrue S.told → IfOk result (λ held. (i : ℕ) → (S.medium self.new.system).free file i
+            → IsHeldByte held.items i) }
         ensures ranges { self.new.ranges ≡ self.old.ranges }
         ensures fresh { self.new.is_fresh ≡ self.old.is_fresh }
         ensures grown { self.new.is_grown ≡ self.old.is_grown }
@@ -197,12 +217,11 @@ impl<S: System> Folder<S> {
     fn sync_one(&mut self, file: u32, spare: &mut Vec<u8>) -> Result<(), DiskFailed>
         requires knows { Knows S.told (S.medium self.old.system) self.old.ranges.items self.old.is_fresh
             self.old.is_grown self.old.is_lost }
-        requires names { (f : ℕ) → (S.medium self.old.system).named f }
         requires fresh { IsFalse self.old.is_fresh }
         requires lost { IsFalse self.old.is_lost }
         ensures knows { Knows S.told (S.medium self.new.system) self.new.ranges.items self.new.is_fresh
             self.new.is_grown self.new.is_lost }
-        ensures names { (f : ℕ) → (S.medium self.new.system).named f }
+        ensures named { (f : ℕ) → (S.medium self.old.system).named f → (S.medium self.new.system).named f }
         ensures fresh { self.new.is_fresh ≡ self.old.is_fresh }
         ensures lost { OnOk result (self.new.is_lost ≡ self.old.is_lost) }
         ensures grown { self.new.is_grown ≡ self.old.is_grown }
@@ -378,7 +397,7 @@ impl<S: System> Folder<S> {
 }
 
 /// Reads what is in the ranges of a file, of the first of them into what is spare.
-fn held_of<S: System>(
+pub(crate) fn held_of<S: System>(
     system: &mut Opened<S>,
     alloc: Global,
     spare: Vec<u8>,

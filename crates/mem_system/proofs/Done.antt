@@ -19,7 +19,7 @@ use Rattle.mem_system.specs.History.{after_calls, all_durable, IsNoWrite, DropsN
 use Rattle.mem_system.specs.HistoryLaws.{is_bounded, folder_is_lawful}
 use Rattle.mem_system.specs.Memory.{mem_medium, HasRecord, SameRecord, AddsCall}
 use Rattle.mem_system.proofs.Moments.{time_goes_on, after, at_end, during, only_reads, looks}
-use Rattle.mem_system.proofs.Told.{write_tears, torn_more, torn_none, same_image, again_fewer, sync_fewer, sync_saves}
+use Rattle.mem_system.proofs.Told.{write_tears, torn_more, torn_none, same_image, again_fewer, sync_fewer}
 use Rattle.mem_system.proofs.Told.{fail_fewer, make_fewer, names_fewer, announce_follows, settle_quiets}
 
 -- ---- a record
@@ -145,7 +145,6 @@ wrote a b file at n all copy copied fits noted =
 -- ---- a sync of a file
 
 pub record SyncedFile (file : ℕ) (old new : SystemMedium) : Type 0 where
-  pub safe : IsWhole old file → old.named file → IsSafe new.disk file
   pub still : IsWhole old file → HasNothingFree new file
   pub kept : (f i : ℕ) → new.lost f i → old.lost f i
   pub others : (f i : ℕ) → f ≢ file → (new.lost f i → old.lost f i) × (new.free f i ↔ old.free f i)
@@ -160,9 +159,6 @@ synced_after start calls file =
     let old = state_after start calls in
     let call = Sync file in
     record {
-      safe = λ whole named c now.
-          sync_saves old file whole named c (at_end start calls call (λ t. IsLeft t c) now)
-          ∙ sym (ap (λ (i : Image). i file) (after start calls call (λ t. t.image ≡ old.image) refl));
       still = λ whole. after start calls call (λ t. (i : ℕ) → ¬ (t.free file i)) (λ i free. free.1 (refl, whole));
       kept = after start calls call (λ t. (f i : ℕ) → t.lost f i → old.lost f i) (λ f i h. h);
       others = after start calls call

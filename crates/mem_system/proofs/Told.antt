@@ -252,17 +252,6 @@ sync_fewer s file c now = record {
       (now.left f);
 }
 
-pub sync_saves : (s : FolderState) (file : ℕ) → NoneLost s file → s.named file
-    → (c : Case) → IsLeft (file_synced s file) c → c.left file ≡ s.image file
-sync_saves s file whole named c now = ⊎_elim
-    (λ none. absurd (none.0 named))
-    (λ leaves.
-    let low = leaves.no_shorter (length (s.image file)) (inr (refl, whole, le_refl _)) in
-    let high = leaves.no_longer in
-    ext_get_or 0 (c.left file) (s.image file) (omega (arith, low, high))
-    (λ i lt. leaves.kept i (inr (refl, whole, omega (arith, lt, high))) (λ free. free.1 (refl, whole))))
-    (now.left file)
-
 pub fail_fewer : (s : FolderState) (file : ℕ) (c : Case) → IsLeft (after_call (FailSync file) s) c → IsLeft s c
 fail_fewer s file c now = record { base = now.base; full = now.full; left = now.left }
 

@@ -1,15 +1,16 @@
 -- That a folder in memory meets the laws of a system.
-use Rattle.std.specs.Prelude.{◌≡◌, ◌≢◌, ℕ, ◌<◌, ◌≤◌, List, [], ◌∷◌, length, take, true}
-use Rattle.std.proofs.Common.{refl, sym, ap, ◌∙◌, subst, inr, ⊎_elim, le_refl, le_trans, take_all, arith}
+use Rattle.std.specs.Prelude.{◌≡◌, ◌≢◌, ℕ, suc, ◌<◌, ◌≤◌, List, [], ◌∷◌, length, take, true}
+use Rattle.std.proofs.Common.{refl, sym, ap, ◌∙◌, subst, inl, inr, ⊎_elim, le_refl, le_trans, take_all, arith}
 use Rattle.std.proofs.lemmas.Bool.{cases_eq}
+use Rattle.std.proofs.lemmas.List.{ext_get_or}
 use Rattle.disk_model.specs.Image.{Image, put_image}
 use Rattle.disk_model.specs.Case.{Case}
 use Rattle.disk_model.specs.Medium.{IsLawful}
-use Rattle.disk_model.specs.Written.{length-put_bytes, length-put_some, put_image_here, put_image_elsewhere}
-use Rattle.system_model.specs.SystemMedium.{InRange}
+use Rattle.disk_model.specs.Written.{length-put_bytes, length-put_some, put_image_here, put_image_elsewhere, put_none}
+use Rattle.system_model.specs.SystemMedium.{InRange, SavesFiles}
 use Rattle.mem_system.specs.declared.record.Call.{Call}
 use Rattle.mem_system.specs.declared.record.Call.TheVariants.{Announce, Write, Make, Sync, FailSync, SyncFolder, Settle}
-use Rattle.mem_system.specs.History.{FolderState, IsLeft, all_durable, bytes_written, after_call, after_calls}
+use Rattle.mem_system.specs.History.{FolderState, IsLeft, NoneLost, all_durable, bytes_written, after_call, after_calls}
 use Rattle.mem_system.specs.History.{state_after, folder_after}
 
 -- no file has fewer bytes than are sure, and what is free of it are bytes that it has
@@ -64,6 +65,61 @@ sound_after_calls (call ∷ calls) s sound = sound_after_calls calls (after_call
 pub is_bounded : (start : Image) (calls : List Call) → IsSoundFolder (state_after start calls)
 is_bounded start calls = sound_after_calls calls (all_durable start)
     (record { sure = λ f n is. is; free = λ f i free. absurd free })
+
+-- of a file of which nothing is lost or free every byte is sure
+abbrev pub IsSureOfFiles : FolderState → Type 0
+IsSureOfFiles s = (f : ℕ) → NoneLost s f → ((i : ℕ) → ¬ (s.free f i)) → (n : ℕ) → n ≤ length (s.image f) → s.sure f n
+
+-- a write of which nothing is free wrote nothing
+kept_still : (image : Image) (file at : ℕ) (bytes : List ℕ) (f : ℕ)
+    → ((i : ℕ) → ¬ ((f ≡ file) × InRange at (length bytes) i)) → put_image image file at bytes f ≡ image f
+kept_still image file at bytes f still = ⊎_elim
+    (λ same. ⊎_elim
+    (λ none. subst (λ k. put_image image file at bytes k ≡ image k) (sym same)
+    (put_image_here image file at bytes ∙ put_none (image file) at bytes none))
+    (λ some. absurd (still at (same, (le_refl _, omega arith))))
+    (cases_eq (length bytes) 0))
+    (λ other. put_image_elsewhere image file at bytes f other)
+    (cases_eq f file)
+
+sure_after : (call : Call) (s : FolderState) → IsSureOfFiles s → IsSureOfFiles (after_call call s)
+sure_after (Announce file at bytes) s sure f whole still n le = sure f whole still n le
+sure_after (Write file at bytes) s sure f whole still n le = sure f
+    (λ i lost. whole i (lost, λ new. still i (inr new)))
+    (λ i free. still i (inl free))
+    n
+    (subst (λ ys. n ≤ length ys) (kept_still s.image file at bytes.items f (λ i new. still i (inr new))) le)
+sure_after (Make file) s sure f whole still n le = sure f whole still n le
+sure_after (Sync file) s sure f whole still n le = ⊎_elim
+    (λ same. inr (same, subst (λ k. NoneLost s k) same whole, le))
+    (λ other. inl (sure f whole (λ i free. still i (free, λ this. other this.0)) n le))
+    (cases_eq f file)
+sure_after (FailSync file) s sure f whole still n le = sure f (λ i lost. whole i (inl lost)) still n le
+sure_after SyncFolder s sure f whole still n le = sure f whole still n le
+sure_after Settle s sure f whole still n le = sure f whole still n le
+
+sure_after_calls : (calls : List Call) (s : FolderState) → IsSureOfFiles s → IsSureOfFiles (after_calls calls s)
+sure_after_calls [] s sure = sure
+sure_after_calls (call ∷ calls) s sure = sure_after_calls calls (after_call call s) (sure_after call s sure)
+
+-- where a file is sure and its name is durable, a power loss leaves it
+leaves_sure : (s : FolderState) (f : ℕ) → s.named f → ((n : ℕ) → n ≤ length (s.image f) → s.sure f n)
+    → ((i : ℕ) → ¬ (s.free f i)) → (c : Case) → IsLeft s c → c.left f ≡ s.image f
+leaves_sure s f named sure still c now = ⊎_elim
+    (λ none. absurd (none.0 named))
+    (λ leaves.
+    let low = leaves.no_shorter (length (s.image f)) (sure (length (s.image f)) (le_refl _)) in
+    let high = leaves.no_longer in
+    ext_get_or 0 (c.left f) (s.image f) (omega (arith, low, high))
+    (λ i lt. leaves.kept i (sure (suc i) (omega (arith, lt, high))) (still i)))
+    (now.left f)
+
+-- a folder with a record saves files
+pub folder_saves : (start : Image) (calls : List Call) → SavesFiles (folder_after start calls)
+folder_saves start calls f whole still named =
+    let s = state_after start calls in
+    let sure = sure_after_calls calls (all_durable start) (λ _ _ _ n le. le) in
+    leaves_sure s f named (sure f whole still) still
 
 -- in a sound folder what reads give is what some power loss leaves
 pub gives_one : (s : FolderState) → IsSoundFolder s → (c : Case) × IsLeft s c × (c.left ≡ s.image)

@@ -229,7 +229,7 @@ fn blank(files: &mut Files, stretch: Stretch) {
 
 impl System for MemSystem {
     ghost use Rattle.std.specs.Prelude.{true};
-    ghost use Rattle.mem_system.specs.HistoryLaws.{folder_is_lawful};
+    ghost use Rattle.mem_system.specs.HistoryLaws.{folder_is_lawful, folder_saves};
     ghost use Rattle.mem_system.specs.Memory.{mem_medium};
 
     type File = MemFile;
@@ -241,6 +241,8 @@ impl System for MemSystem {
     ghost medium = { mem_medium };
 
     ghost lawful = { λ system. folder_is_lawful (image_of system.start) system.history.items };
+
+    ghost saves = { λ system _. folder_saves (image_of system.start) system.history.items };
 
     fn list(&mut self, alloc: Global) -> io::Result<Vec<u32>> {
         self.enter()?;

@@ -36,7 +36,7 @@ pub(crate) struct BesideFile {
 impl<'a, R: Files<File = File>> System for Beside<'a, R> {
     ghost use Rattle.std.specs.Prelude.{false};
     ghost use Rattle.disk_model.specs.Silence.{silent_is_lawful};
-    ghost use Rattle.system_model.specs.Unmodelled.{unmodelled};
+    ghost use Rattle.system_model.specs.Unmodelled.{unmodelled, unmodelled_saves};
 
     type File = BesideFile;
 
@@ -47,6 +47,8 @@ impl<'a, R: Files<File = File>> System for Beside<'a, R> {
     ghost medium = { λ _. unmodelled };
 
     ghost lawful = { λ _. silent_is_lawful 0 };
+
+    ghost saves = { λ _ _. unmodelled_saves };
 
     /// None is listed, since the run syncs them.
     fn list(&mut self, alloc: Global) -> io::Result<Vec<u32>> {

@@ -22,7 +22,7 @@ pub struct HostFile {
 impl<'a, R: Files<File = File>> System for HostSystem<'a, R> {
     ghost use Rattle.std.specs.Prelude.{false};
     ghost use Rattle.disk_model.specs.Silence.{silent_is_lawful};
-    ghost use Rattle.system_model.specs.Unmodelled.{unmodelled};
+    ghost use Rattle.system_model.specs.Unmodelled.{unmodelled, unmodelled_saves};
 
     type File = HostFile;
 
@@ -33,6 +33,8 @@ impl<'a, R: Files<File = File>> System for HostSystem<'a, R> {
     ghost medium = { λ _. unmodelled };
 
     ghost lawful = { λ _. silent_is_lawful 0 };
+
+    ghost saves = { λ _ _. unmodelled_saves };
 
     fn list(&mut self, alloc: Global) -> io::Result<Vec<u32>> {
         match self.folder {

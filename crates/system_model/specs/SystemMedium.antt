@@ -37,6 +37,11 @@ IsWhole m f = (i : ℕ) → ¬ (m.lost f i)
 abbrev pub HasNothingFree : SystemMedium → ℕ → Type 0
 HasNothingFree m f = (i : ℕ) → ¬ (m.free f i)
 
+-- a file of which nothing is lost or free is safe where its name is durable, whether its bytes or its name became so
+-- first
+abbrev pub SavesFiles : SystemMedium → Type 0
+SavesFiles m = (f : ℕ) → IsWhole m f → HasNothingFree m f → m.named f → IsSafe m.disk f
+
 -- the folder does not have the file: no byte of it is read, none comes up after a power loss, and none is free
 pub record IsAbsent (m : SystemMedium) (f : ℕ) : Type 0 where
   pub empty : m.disk.image f ≡ []

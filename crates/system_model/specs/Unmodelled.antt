@@ -1,5 +1,5 @@
 -- A system that models nothing: no byte and no case.
-use Rattle.system_model.specs.SystemMedium.{SystemMedium}
+use Rattle.system_model.specs.SystemMedium.{SystemMedium, SavesFiles}
 use Rattle.disk_model.specs.Silence.{silent_medium}
 
 -- every file is empty, nothing is free or lost, and no power loss is spoken of
@@ -10,3 +10,7 @@ unmodelled = record {
   free = λ _ _. ⊥;
   lost = λ _ _. ⊥;
 }
+
+-- it keeps its word of files
+pub unmodelled_saves : SavesFiles unmodelled
+unmodelled_saves f whole still named c now = absurd now

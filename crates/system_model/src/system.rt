@@ -6,7 +6,7 @@ ghost use Rattle.disk_model.specs.Image.{put_image};
 ghost use Rattle.disk_model.specs.Case.{Case, Follows};
 ghost use Rattle.disk_model.specs.Medium.{Quiet, IsLawful, Elapses, OnlyReads, WritesNothing};
 ghost use Rattle.system_model.specs.SystemMedium.{SystemMedium, IsSafe, IsWhole, HasNothingFree, InRange, ShowsBytes};
-ghost use Rattle.system_model.specs.SystemMedium.{Looks};
+ghost use Rattle.system_model.specs.SystemMedium.{Looks, SavesFiles};
 ghost use Rattle.system_model.specs.SystemMedium.{AnnounceCase, TearCase, IsAbsent, read_count, ReadGives};
 
 use crate::reading::Reading;
@@ -117,13 +117,11 @@ pub trait System {
             → (IsTrue told → ShowsBytes ((medium self.old).disk.image (number file.now)) at bytes.now)
             → OnlyReads (medium self.old).disk (medium self.new).disk };
 
-    /// Makes the bytes of the file durable, whoever wrote them, if nothing of it is lost and its name is durable. Where
-    /// it fails, what was free of it may be lost.
+    /// Makes the bytes of the file durable, whoever wrote them, if nothing of it is lost. Its name need not be durable
+    /// yet. Where it fails, what was free of it may be lost.
     fn sync_file(&mut self, file: &Self::File) -> io::Result<()>
-        // A sync that succeeds: of a file of which nothing is lost nothing is free any more, and a power loss leaves
-        // it, where its name is durable. Nothing becomes lost, and of other files nothing becomes free.
-        ensures safe { IsTrue told → OnOk result (IsWhole (medium self.old) (number file.now)
-            → (medium self.old).named (number file.now) → IsSafe (medium self.new).disk (number file.now)) }
+        // A sync that succeeds: of a file of which nothing is lost nothing is free any more. Nothing becomes lost, and
+        // of other files nothing becomes free.
         ensures still { IsTrue told → OnOk result (IsWhole (medium self.old) (number file.now)
             → HasNothingFree (medium self.new) (number file.now)) }
         ensures kept { IsTrue told → OnOk result ((f i : ℕ) → (medium self.new).lost f i
@@ -180,4 +178,7 @@ pub trait System {
 
     /// A folder obeys the laws of a disk.
     ghost lawful: { (system : Self) → IsLawful told (medium system).disk };
+
+    /// A power loss leaves a file whose bytes and whose name are durable, whichever of both was made so first.
+    ghost saves: { (system : Self) → IsTrue told → SavesFiles (medium system) };
 }

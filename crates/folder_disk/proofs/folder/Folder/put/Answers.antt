@@ -1,18 +1,24 @@
-use Rattle.std.proofs.Common.{refl}
-use Rattle.folder_disk.specs.declared.range.Range.{Range}
-use Rattle.folder_disk.proofs.Noting.{knows_noted}
+use Rattle.std.proofs.Common.{take}
+use Rattle.folder_disk.proofs.Noting.{puts, puts_on, shows_put}
 use Rattle.folder_disk.proofs.folder.Folder.put.Goals as goal
 
-pub returns-then-note-clause-knows : goal.returns-then-note-clause-knows
-returns-then-note-clause-knows g c =
+pub cover-requires-clause-shows : goal.cover-requires-clause-shows
+cover-requires-clause-shows g c = λ t.
+    shows_put (g.S.System.medium c.announce.new.self).disk.image
+    (g.S.System.medium c.write_all-progress.new.system).disk.image c.args.file c.args.at
+    (take c.write_all-progress.result.done c.args.bytes.now) (c.write_all-progress.ensures.writes.image t)
+
+pub returns-clause-puts : goal.returns-clause-puts
+returns-clause-puts g c =
     let told = g.S.System.told in
     let a = g.S.System.medium c.args.self.now.system in
     let b = g.S.System.medium c.announce.new.self in
     let d = g.S.System.medium c.write_all-progress.new.system in
-    let self = c.args.self.now in
     let e = c.announce.ensures in
     let w = c.write_all-progress.ensures in
-    let r : Range = record { file = c.args.file; at = c.args.at; len = c.write_all-progress.result.done } in
-    knows_noted told c.args.file c.args.at c.args.bytes.now c.write_all-progress.result.done w.count a b d e.image
-    c.in_ok-announce.ensures.now e.during e.time w.writes self.ranges.items self.is_fresh self.is_grown self.is_lost
-    c.requires.knows e.named e.free e.lost r refl refl refl c.note.new.ranges.items (c.note.ensures.noted c.if-note.true)
+    let n = c.write_all-progress.result.done in
+    puts_on told c.args.file c.args.at c.args.bytes.now n told a.disk d.disk
+    (g.S.System.medium c.cover.new.self.system).disk
+    (g.met.S.System.lawful c.write_all-progress.new.system)
+    (puts told c.args.file c.args.at c.args.bytes.now n w.count a b d e.image c.in_ok-announce.ensures.now e.during
+    e.time w.writes) c.cover.ensures.reads c.cover.ensures.time

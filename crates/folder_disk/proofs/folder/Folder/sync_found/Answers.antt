@@ -2,9 +2,9 @@ use Rattle.std.proofs.Common.{ℕ, true, get_or, refl, subst, sym, ap, ◌∙◌
 use Rattle.std.specs.Prelude.{Contains}
 use Rattle.std.proofs.lemmas.Bool.{cases_eq}
 use Rattle.disk_model.specs.Laws.{reads_on, elapses_on}
-use Rattle.system_model.specs.SystemMedium.{HasNothingFree, IsSafe}
+use Rattle.system_model.specs.SystemMedium.{HasNothingFree}
 use Rattle.folder_disk.specs.Knows.{Covered, Knows}
-use Rattle.folder_disk.proofs.Noting.{safe_reads, knows_fresh}
+use Rattle.folder_disk.proofs.Noting.{knows_fresh}
 use Rattle.folder_disk.proofs.Syncs.{contains_next, not_in_end}
 use Rattle.folder_disk.proofs.folder.Folder.sync_found.Goals as goal
 
@@ -24,10 +24,8 @@ loop-file-init g c =
       ranges = c.clear.ensures.items;
       fresh = refl;
       lost = c.requires.lost;
-      others = λ t f none.
-          let absent = c.in-Ok.ensures.others t f
-          (λ h. none (subst (λ xs. Contains xs f) (sym c.deref-file-items.ensures.value) h)) in
-          (absent.safe, absent.still);
+      others = λ t f none. (c.in-Ok.ensures.others t f
+          (λ h. none (subst (λ xs. Contains xs f) (sym c.deref-file-items.ensures.value) h))).still;
       faults = refl;
       written = refl;
     }
@@ -36,7 +34,6 @@ pub loop-file-preserved : goal.loop-file-preserved
 loop-file-preserved g c =
     let inv = c.loop-file.invariant in
     let e = c.in_ok-sync_first.ensures in
-    let mid = g.S.System.medium c.loop-file.self.system in
     let new = g.S.System.medium c.sync_first.new.self.system in
     let files = c.deref-file-items.result.now in
     let k = c.loop-file.file-index in
@@ -50,17 +47,20 @@ loop-file-preserved g c =
       fresh = e.fresh;
       lost = e.lost;
       others = λ t f none. ⊎_elim
-          (λ same. subst (λ x. IsSafe new.disk x × HasNothingFree new x) (sym same) (e.safe t, e.still t))
+          (λ same. subst (λ x. HasNothingFree new x) (sym same) (e.still t))
           (λ ne. let was = inv.others t f (contains_next files k f c.loop-file-test.true ne none) in
-          (safe_reads mid.disk new.disk e.reads f was.0, λ i h. was.1 i (e.no_more t f i h)))
+          (λ i h. was i (e.no_more t f i h)))
           (cases_eq f file);
       faults = e.passes ∙ inv.faults;
       written = e.written ∙ inv.written;
     }
 
 pub returns-clause-safe : goal.returns-clause-safe
-returns-clause-safe g c = λ t f. (c.loop-file.invariant.others t f
-    (not_in_end c.deref-file-items.result.now c.loop-file.file-index f c.loop-file-test.false)).0
+returns-clause-safe g c = λ t f.
+    let inv = c.loop-file.invariant in
+    g.met.S.System.saves c.loop-file.self.system t f (inv.knows.whole t inv.lost f)
+    (inv.others t f (not_in_end c.deref-file-items.result.now c.loop-file.file-index f c.loop-file-test.false))
+    (inv.named f)
 
 pub returns-clause-knows : goal.returns-clause-knows
 returns-clause-knows g c =
@@ -69,7 +69,6 @@ returns-clause-knows g c =
     record {
       whole = λ t l f. inv.knows.whole t l f;
       free = λ t l f i h. absurd (subst (λ rs. Covered rs f i) inv.ranges h);
-      covers = λ t l s f i h. absurd ((inv.others t f (none f)).1 i h);
-      safe = λ t s f _. (inv.others t f (none f)).0;
+      covers = λ t l s f i h. absurd (inv.others t f (none f) i h);
       named = λ s gr f. inv.named f;
     }

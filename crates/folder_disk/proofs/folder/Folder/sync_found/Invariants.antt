@@ -1,7 +1,7 @@
 use Rattle.std.proofs.Common.{◌≡◌, ℕ, [], drop}
 use Rattle.std.specs.Prelude.{IsTrue, IsFalse, Contains}
 use Rattle.disk_model.specs.Medium.{Elapses, OnlyReads}
-use Rattle.system_model.specs.SystemMedium.{HasNothingFree, IsSafe}
+use Rattle.system_model.specs.SystemMedium.{HasNothingFree}
 use Rattle.folder_disk.specs.Knows.{Knows}
 use Rattle.folder_disk.proofs.folder.Folder.sync_found.Given as goal
 
@@ -18,7 +18,7 @@ invariant-loop-file g l =
       fresh : IsTrue l.self.is_fresh;
       lost : IsFalse l.self.is_lost;
       others : IsTrue g.S.System.told → (f : ℕ) → (Contains (drop l.file-index l.file-items) f → ⊥)
-          → IsSafe new.disk f × HasNothingFree new f;
+          → HasNothingFree new f;
       faults : l.self.faults ≡ l.fn.self.faults;
       written : l.self.written ≡ l.fn.self.written;
     }

@@ -13,5 +13,4 @@ returns-in-Ok-clause-knows g c =
     let e = c.in-Ok.ensures in
     subst (λ rs. Knows told b rs self.is_fresh self.is_grown self.is_lost) (sym c.forget.ensures)
     (knows_synced told a b c.args.file self.ranges.items self.is_fresh self.is_grown self.is_lost h.knows
-    (h.fresh ∙ c.requires.fresh) (h.lost ∙ c.requires.lost) (λ f. h.looks.named f (c.requires.names f)) e.reads e.named
-    e.others e.safe e.still e.kept e.no_more)
+    (h.lost ∙ c.requires.lost) e.named e.others e.still e.kept e.no_more)

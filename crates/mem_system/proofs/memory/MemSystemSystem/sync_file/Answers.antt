@@ -1,13 +1,6 @@
 use Rattle.mem_system.proofs.Done.{synced_file, failed_sync}
 use Rattle.mem_system.proofs.memory.MemSystemSystem.sync_file.Goals as goal
 
-pub returns-in_ok-note-in-Passes-clause-safe : goal.returns-in_ok-note-in-Passes-clause-safe
-returns-in_ok-note-in-Passes-clause-safe c = λ told. (synced_file c.args.self.now c.note.new.self c.args.file.now.number
-    (record {
-      start_is = c.in_ok-note-in-Passes.ensures.ok.start_is;
-      calls_are = c.in_ok-note-in-Passes.ensures.ok.calls_are;
-    })).safe
-
 pub returns-in_ok-note-in-Passes-clause-still : goal.returns-in_ok-note-in-Passes-clause-still
 returns-in_ok-note-in-Passes-clause-still c = λ told. (synced_file c.args.self.now c.note.new.self c.args.file.now.number
     (record {
