@@ -8,7 +8,7 @@ use std::alloc::{AllocError, Global};
 use std::io::{self, Write};
 
 /// The version of the sources.
-const VERSION: &str = "0.22.0";
+const VERSION: &str = "0.23.0";
 
 /// A column after which no word stands.
 const FULL: usize = 80;
