@@ -1,6 +1,6 @@
 //! A word that is stopped after each write to the disk.
 
-use crate::courses::{restarted, run, step};
+use crate::courses::{restart, run, step};
 use crate::snapshots::Snapshot;
 use case_words::{CaseError, text};
 use disk_model::MemDisk;
@@ -46,8 +46,7 @@ pub fn damaged(alloc: Global, rest: &str) -> Result<String, CaseError> {
 fn follow_all(alloc: Global, rest: &str, damages: &[&str]) -> Result<String, CaseError> {
     let (earlier, rest) = cut_part(rest);
     let course = course_of(rest);
-    let (mut disk, _said) = run(alloc, MemDisk::new(alloc), earlier)?;
-    let start = Snapshot::taken(alloc, &mut disk)?;
+    let start = start_after(alloc, earlier)?;
     let moments = moments(alloc, &start, course.word)?;
     for way in RESTARTS {
         if let Some(fault) = follow(alloc, &start, course, &moments, "", way)? {
@@ -62,6 +61,13 @@ fn follow_all(alloc: Global, rest: &str, damages: &[&str]) -> Result<String, Cas
         }
     }
     text(alloc, "kept")
+}
+
+// What the disk holds after these words.
+fn start_after(alloc: Global, words: &str) -> Result<Snapshot, CaseError> {
+    let mut disk = MemDisk::new(alloc);
+    run(alloc, &mut disk, words)?;
+    Snapshot::taken(alloc, &mut disk)
 }
 
 fn course_of(rest: &str) -> Course<'_> {
@@ -91,16 +97,28 @@ fn moments(alloc: Global, start: &Snapshot, word: &str) -> Result<Vec<u64>, Case
     let mut moments = Vec::new(alloc);
     let mut written = 0;
     for passing in 0..ENOUGH {
-        let (disk, done) = stopped_at(alloc, start, word, passing)?;
-        if done || passing == 0 || disk.written() > written {
+        let (now_written, done) = written_at(alloc, start, word, passing)?;
+        if done || passing == 0 || now_written > written {
             moments.push(passing)?;
         }
         if done {
             return Ok(moments);
         }
-        written = disk.written();
+        written = now_written;
     }
     Err(CaseError::NoCase)
+}
+
+// How many bytes the word has written where it is stopped after that many calls, and whether it succeeded.
+fn written_at(
+    alloc: Global,
+    start: &Snapshot,
+    word: &str,
+    passing: u64,
+) -> Result<(u64, bool), CaseError> {
+    let mut disk = start.disk(alloc)?;
+    let done = is_done(alloc, &mut disk, word, passing)?;
+    Ok((disk.written(), done))
 }
 
 // Stops the word at each of these moments. Where a restart keeps all writes or none, the answer is that of after from
@@ -116,9 +134,7 @@ fn follow(
     let is_whole = way == "all" || way == "none";
     let mut is_over = false;
     for passing in moments {
-        let (disk, done) = stopped_at(alloc, start, course.word, *passing)?;
-        let (disk, _said) = run(alloc, restarted(disk, way)?, damage)?;
-        let (_disk, now) = run(alloc, disk, course.look)?;
+        let (now, done) = answer_at(alloc, start, course, *passing, damage, way)?;
         if !is_allowed(course, done || is_over, now.as_str()) {
             let fault = format!(in alloc; "{damage} restart {way} after {passing} calls: {now}")?;
             return Ok(Some(fault));
@@ -128,18 +144,44 @@ fn follow(
     Ok(None)
 }
 
-// The disk on which the word is stopped after that many calls, and whether it succeeded.
-fn stopped_at(
+// What the look answers where the word is stopped after that many calls, and whether the word succeeded.
+fn answer_at(
     alloc: Global,
     start: &Snapshot,
+    course: Course<'_>,
+    passing: u64,
+    damage: &str,
+    way: &str,
+) -> Result<(String, bool), CaseError> {
+    let mut disk = start.disk(alloc)?;
+    look_after(alloc, &mut disk, course, passing, damage, way)
+}
+
+fn look_after(
+    alloc: Global,
+    disk: &mut MemDisk,
+    course: Course<'_>,
+    passing: u64,
+    damage: &str,
+    way: &str,
+) -> Result<(String, bool), CaseError> {
+    let done = is_done(alloc, disk, course.word, passing)?;
+    restart(alloc, disk, way)?;
+    run(alloc, disk, damage)?;
+    Ok((run(alloc, disk, course.look)?, done))
+}
+
+// Whether the word succeeds where it is stopped after that many calls.
+fn is_done(
+    alloc: Global,
+    disk: &mut MemDisk,
     word: &str,
     passing: u64,
-) -> Result<(MemDisk, bool), CaseError> {
-    let mut disk = start.disk(alloc)?;
+) -> Result<bool, CaseError> {
     disk.stop_after(passing);
     let mut said = String::new(alloc);
-    let disk = step(alloc, disk, word, &mut said)?;
-    Ok((disk, !said.as_str().ends_with("failed")))
+    step(alloc, disk, word, &mut said)?;
+    Ok(!said.as_str().ends_with("failed"))
 }
 
 fn is_allowed(course: Course<'_>, is_over: bool, now: &str) -> bool {

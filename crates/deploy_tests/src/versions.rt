@@ -58,17 +58,27 @@ fn put_storage(
     ensures { (mem_medium disk.new).image ≡ (mem_medium disk.old).image }
 {
     let shape = shape_of(app, bank, number, config)?;
+    let found = inspect(alloc, disk, &shape);
+    put_found(alloc, config, &found, said)
+}
+
+fn put_found(
+    alloc: Global,
+    config: &StorageConfig,
+    found: &Result<View, StoreError>,
+    said: &mut String,
+) -> Result<(), Fault> {
     let name = config.name.as_str();
-    match inspect(alloc, disk, &shape) {
+    match found {
         Ok(view) => {
             write!(said, " {name}")?;
-            put_view(alloc, said, config.kind, &view)
+            put_view(alloc, said, config.kind, view)
         }
         Err(StoreError::Corrupt) => {
             write!(said, " {name} corrupt")?;
             Ok(())
         }
-        Err(error) => Err(error.into()),
+        Err(error) => Err((*error).into()),
     }
 }
 
