@@ -1,6 +1,6 @@
 -- How long encodings are: no payload is empty, so a list has no more items than its payload has bytes.
 use Rattle.std.proofs.Common.{◌≡◌, ℕ, ◌≤◌, ◌<◌, ◌^◌, length, refl, arith, length-append, Vec, vec_len, Global}
-use Rattle.std.specs.declared.rc.counts.Rc.{Rc}
+use Rattle.std.specs.declared.rc.Rc.{Rc}
 use Rattle.std.specs.Int.{w32, to_le_bytes, byte_len}
 use Rattle.value_model.specs.declared.types.ValueType.{ValueType}
 use Rattle.value_model.specs.declared.nodes.Node as nodes

@@ -1,7 +1,7 @@
 -- The kinds and trees of lists: how many there are, and what is left of them in a loop.
 use Rattle.std.proofs.Common.{◌≡◌, ◌≢◌, ◌≤◌, ◌↔◌, ◌++◌, ℕ, suc, true, false, drop, List, [], ◌∷◌, length, map, refl, ap}
 use Rattle.std.proofs.Common.{sym, ◌∙◌, ◌&&◌, Vec, vec_len, Global, rules}
-use Rattle.std.specs.declared.rc.counts.Rc.{Rc}
+use Rattle.std.specs.declared.rc.Rc.{Rc}
 use Rattle.value_model.specs.declared.types.ValueType as types
 use Rattle.value_model.specs.declared.types.ValueType.{ValueType}
 use Rattle.value_model.specs.declared.nodes.Node as nodes
