@@ -75,8 +75,8 @@ impl Store {
     ///
     /// # Errors
     ///
-    /// `OutOfMemory` hands back the storage, the changes and what was given beside, before any call of the disk. `Device`
-    /// closes it.
+    /// `OutOfMemory` hands back the storage, the changes and what was given beside, before any call of the disk.
+    /// `Device` closes it.
     #[tactic(none)]
     pub fn commit<D: Disk, T: Drop>(
         self,
@@ -104,8 +104,8 @@ impl Store {
             (index_in store).entries) }
         ensures format { IfOk result (λ store. (index_in store).format ≡ 2) }
 
-        // Running out of memory hands all that was given back, and then nothing happened. Only a disk that failed closes
-        // the storage.
+        // Running out of memory hands all that was given back, and then nothing happened. Only a disk that failed
+        // closes the storage.
         ensures memory { IfErr result (λ fault. HandsBack (self, changes, beside) fault (disk.new ≡ disk.old)) }
         ensures cause { IfErr result (λ fault. IsDeviceFault fault
             → Rose (D.medium disk.old).faults (D.medium disk.new).faults) }

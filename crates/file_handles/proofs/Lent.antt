@@ -27,8 +27,8 @@ use Rattle.per_base.specs.Maps.{Map, element_at, size_of, with_element}
 use Rattle.per_base.specs.Names.{NamesAscend, name_cmp}
 use Rattle.file_core.specs.Files.{IsFile, good_bytes, with_bytes, without_bytes}
 use Rattle.file_handles.specs.declared.storage.Storage.{Storage}
-use Rattle.file_handles.specs.Lending.{PutsReadable, all_filled, all_lent, all_put_back, bytes_there, filled, lent, put_back}
-use Rattle.file_handles.specs.Lending.{remade}
+use Rattle.file_handles.specs.Lending.{PutsReadable, all_filled, all_lent, all_put_back, bytes_there, filled, lent}
+use Rattle.file_handles.specs.Lending.{put_back, remade}
 use Rattle.file_handles.specs.Sessions.{Handles, IsHeldAt, SameBeside}
 use Rattle.file_handles.specs.Tables.{AreFiles, Held, IsTable}
 use Rattle.file_handles.specs.lemmas.Entries.{file_set, size_set}

@@ -1,5 +1,5 @@
--- Lending: the bytes of working files are moved into the changes that put these files, and back. `files` are the working
--- files by name.
+-- Lending: the bytes of working files are moved into the changes that put these files, and back. `files` are the
+-- working files by name.
 use Rattle.std.specs.Prelude.{ℕ, List, [], ◌∷◌, Option, None, Some, IsSome, unwrap_or, ⊤}
 use Rattle.per_base.specs.declared.elements.Change.{Change}
 use Rattle.per_base.specs.declared.elements.Change.TheVariants.{Put, Remove, Touch}

@@ -7,8 +7,8 @@ ghost use Rattle.per_base.specs.Changes.{changed_name};
 ghost use Rattle.per_base.specs.Maps.{element_at, with_element};
 ghost use Rattle.per_base.specs.Names.{NamesAscend};
 ghost use Rattle.file_core.specs.Files as core;
-ghost use Rattle.file_handles.specs.Lending.{PutsReadable, all_filled, all_lent, all_put_back, bytes_there, filled, lent};
-ghost use Rattle.file_handles.specs.Lending.{put_back, taken_back};
+ghost use Rattle.file_handles.specs.Lending.{PutsReadable, all_filled, all_lent, all_put_back, bytes_there, filled};
+ghost use Rattle.file_handles.specs.Lending.{lent, put_back, taken_back};
 
 use crate::table::FileTable;
 use file_core::File;

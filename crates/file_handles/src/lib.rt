@@ -7,7 +7,8 @@
 //!
 //! The files are the table's own, apart from those on the disk: cutting a file does not allocate, and neither do the
 //! other calls that only look, move or close. There are at most 1,024 files, and they never take more than the storage
-//! is allowed. Where no handle is open, the files may lend their bytes to the changes that put them, in place of a copy.
+//! is allowed. Where no handle is open, the files may lend their bytes to the changes that put them, in place of a
+//! copy.
 //!
 //! Words of the contracts: a *session* is the files and the handles; `ok` says what a call answers, by the function of
 //! its name in `specs`; `refused` that an error is the one that is due, or `OutOfMemory` where the call may run out of

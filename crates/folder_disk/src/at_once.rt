@@ -18,8 +18,8 @@ use system_model::{Asked, Failure, Part, System};
 const LARGE_WRITE: u64 = 65_536;
 
 impl<S: System> Folder<S> {
-    /// Notes that these bytes were written from the byte `at` on. A large write is synced at once: its bytes are at hand
-    /// then, and need not be read again before the next sync, which has nothing left to do for it.
+    /// Notes that these bytes were written from the byte `at` on. A large write is synced at once: its bytes are at
+    /// hand then, and need not be read again before the next sync, which has nothing left to do for it.
     pub(crate) fn cover(&mut self, file: u32, at: u64, bytes: &[u8])
         requires knows { Knows S.told (S.medium self.old.system)
             (record { file = file; at = at; len = length bytes.now } ∷ self.old.ranges.items) self.old.is_fresh

@@ -253,8 +253,8 @@ impl<S: System> Folder<S> {
         }
     }
 
-    /// Writes the bytes, or some of the first of them, and notes that or syncs it. Where that is not even begun, nothing
-    /// changes.
+    /// Writes the bytes, or some of the first of them, and notes that or syncs it. Where that is not even begun,
+    /// nothing changes.
     fn put(&mut self, file: u32, at: u64, bytes: &[u8]) -> io::Result<Progress>
         requires fits { at + length bytes.now < 2 ^ 64 }
         requires knows { Knows S.told (S.medium self.old.system) self.old.ranges.items self.old.is_fresh

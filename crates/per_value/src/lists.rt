@@ -7,6 +7,7 @@ ghost use Rattle.value_model.specs.Views.{trees_view};
 
 use crate::conversion::PerValue;
 use std::alloc::{AllocError, Global};
+use std::rc::Rc;
 use value_model::{Node, ValueType};
 
 impl<T: PerValue + Drop> PerValue for Vec<T> {
@@ -22,11 +23,11 @@ impl<T: PerValue + Drop> PerValue for Vec<T> {
     ghost same = { λ list other. AllSame T.same list.items other.items };
 
     fn type_of(alloc: Global) -> Result<ValueType, AllocError> {
-        Ok(ValueType::List(Box::new(alloc, T::type_of(alloc)?)?))
+        Ok(ValueType::List(Rc::new(alloc, T::type_of(alloc)?)?))
     }
 
     fn to_node(&self, alloc: Global) -> Result<Node, AllocError> {
-        let item_type = T::type_of(alloc)?;
+        let item_type = Rc::new(alloc, T::type_of(alloc)?)?;
         Ok(Node::List(item_type, nodes_of(alloc, self.as_slice())?))
     }
 

@@ -36,8 +36,7 @@ pub(crate) fn node_at<'a>(
         ValueType::List(item) => {
             let (count, rest) = u32_at(bytes)?;
             let (nodes, rest) = items_at(alloc, item, count, rest)?;
-            let item = item.copy(alloc)?;
-            Ok((Node::List(item, nodes), rest))
+            Ok((Node::List(item.clone()?, nodes), rest))
         }
         ValueType::Fields(members) => {
             let (nodes, rest) = members_at(alloc, members.as_slice(), bytes)?;

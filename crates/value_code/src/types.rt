@@ -10,6 +10,7 @@ use crate::codes;
 use crate::fields::byte_at;
 use crate::payloads::put_byte;
 use std::alloc::{AllocError, Global};
+use std::rc::Rc;
 use value_model::{DecodeError, MAX_MEMBERS, ValueType};
 
 /// The type at the start of the bytes, of at most this depth, and the bytes after it.
@@ -44,7 +45,7 @@ fn list_type_at(alloc: Global, depth: u32, bytes: &[u8]) -> Result<(ValueType, &
         (list_kind_by (kind_at depth) bytes.now) }
 {
     let (item, rest) = type_at(alloc, depth, bytes)?;
-    Ok((ValueType::List(Box::new(alloc, item)?), rest))
+    Ok((ValueType::List(Rc::new(alloc, item)?), rest))
 }
 
 /// After the code of a group of fields.

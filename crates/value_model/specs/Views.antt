@@ -56,7 +56,7 @@ tree_step (Node-F.I32 z) = signed_tree four z
 tree_step (Node-F.I64 z) = signed_tree eight z
 tree_step (Node-F.Text t) = text_tree t
 tree_step (Node-F.Bytes b) = bytes_tree b
-tree_step (Node-F.List k v) = list_tree (kind_of k) (trees_of v.items)
+tree_step (Node-F.List k v) = list_tree (kind_of k.value) (trees_of v.items)
 tree_step (Node-F.Fields v) = fields_tree (trees_of v.items)
 
 -- the tree that a `Node` of the code denotes

@@ -6,6 +6,7 @@ ghost use Rattle.value_model.specs.Views.{tree_of, trees_view};
 use crate::types::ValueType;
 use per_base::{Bytes, ValueText};
 use std::alloc::{AllocError, Global};
+use std::rc::Rc;
 
 /// A tree of contents. It need not be well typed: a [`crate::Value`] holds one that is.
 #[derive(Debug, Drop)]
@@ -21,8 +22,8 @@ pub enum Node {
     I64(i64),
     Text(ValueText),
     Bytes(Bytes),
-    /// A list: the type of its items, and the items.
-    List(ValueType, Vec<Node>),
+    /// A list: the type of its items, which lists of this type share, and the items.
+    List(Rc<ValueType>, Vec<Node>),
     /// A group of fields: its members, in order. They have no names.
     Fields(Vec<Node>),
 }
@@ -46,7 +47,7 @@ impl Node {
             Node::Text(text) => Node::Text(text.copy()?),
             Node::Bytes(bytes) => Node::Bytes(bytes.copy()?),
             Node::List(item, nodes) => {
-                Node::List(item.copy(alloc)?, copies(alloc, nodes.as_slice())?)
+                Node::List(item.clone()?, copies(alloc, nodes.as_slice())?)
             }
             Node::Fields(nodes) => Node::Fields(copies(alloc, nodes.as_slice())?),
         })

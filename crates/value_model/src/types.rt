@@ -6,6 +6,7 @@ ghost use Rattle.value_model.specs.Views.{kind_of, kinds_view};
 
 use crate::limits::is_group_size;
 use std::alloc::{AllocError, Global};
+use std::rc::Rc;
 
 /// The type of a value.
 #[derive(Debug, Drop)]
@@ -21,8 +22,8 @@ pub enum ValueType {
     I64,
     Text,
     Bytes,
-    /// A list, with the type of its items.
-    List(Box<ValueType>),
+    /// A list, with the type of its items, which copies and lists of this type share.
+    List(Rc<ValueType>),
     /// A group of fields, with the types of its 1 to 32 members.
     Fields(Vec<ValueType>),
 }
@@ -90,7 +91,7 @@ impl ValueType {
             ValueType::I64 => ValueType::I64,
             ValueType::Text => ValueType::Text,
             ValueType::Bytes => ValueType::Bytes,
-            ValueType::List(item) => ValueType::List(Box::new(alloc, item.copy(alloc)?)?),
+            ValueType::List(item) => ValueType::List(item.clone()?),
             ValueType::Fields(members) => ValueType::Fields(copies(alloc, members.as_slice())?),
         })
     }

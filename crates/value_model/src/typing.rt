@@ -121,7 +121,7 @@ pub(crate) fn type_of_node(alloc: Global, node: &Node) -> Result<ValueType, Allo
         Node::I64(_) => ValueType::I64,
         Node::Text(_) => ValueType::Text,
         Node::Bytes(_) => ValueType::Bytes,
-        Node::List(item, _) => ValueType::List(Box::new(alloc, item.copy(alloc)?)?),
+        Node::List(item, _) => ValueType::List(item.clone()?),
         Node::Fields(nodes) => ValueType::Fields(types_of_nodes(alloc, nodes.as_slice())?),
     })
 }

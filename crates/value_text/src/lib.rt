@@ -6,8 +6,8 @@
 //! line feed follow a backslash; nothing else is escaped, so that the text of a value is one line of UTF-8.
 //!
 //! [`push_value`] appends the text of a value to another. [`parse_unsigned`], [`parse_signed`] and [`parse_hex`] read a
-//! number or bytes without a type, and [`push_hex`] and [`spell_hex`] write such bytes. [`parse_hex_reusing`] reads bytes
-//! into the memory of others that are no longer needed.
+//! number or bytes without a type, and [`push_hex`] and [`spell_hex`] write such bytes. [`parse_hex_reusing`] reads
+//! bytes into the memory of others that are no longer needed.
 //!
 //! Reading goes once over the text, and nests no deeper than a type may, 8.
 #![tactic(auto)]

@@ -11,6 +11,7 @@ ghost use Rattle.value_text.specs.Types.{IsType};
 
 use crate::readers::{after, punctuation};
 use std::alloc::Global;
+use std::rc::Rc;
 use value_model::{DecodeError, MAX_DEPTH, MAX_MEMBERS, ValueType};
 
 /// The scalar type whose word stands at the start, and what follows it.
@@ -60,7 +61,7 @@ fn list_type(alloc: Global, depth: u32, bytes: &[u8]) -> Result<(ValueType, &[u8
 {
     let (item, rest) = type_at(alloc, depth, bytes)?;
     let rest = after(b">", rest).ok_or(DecodeError::NotAValue)?;
-    Ok((ValueType::List(Box::new(alloc, item)?), rest))
+    Ok((ValueType::List(Rc::new(alloc, item)?), rest))
 }
 
 /// The members of a group, after its opening brace, up to the closing one.

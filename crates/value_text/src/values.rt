@@ -17,6 +17,7 @@ use crate::readers::{after, punctuation};
 use crate::strings::{bytes_at, text_at};
 use crate::types::{scalar_at, type_at};
 use std::alloc::Global;
+use std::rc::Rc;
 use value_model::{DecodeError, MAX_DEPTH, MAX_MEMBERS, Node, Value, ValueError, ValueType};
 
 /// A truth value.
@@ -150,7 +151,7 @@ fn list_value(alloc: Global, depth: u32, bytes: &[u8]) -> Result<(Node, &[u8]), 
         return Err(DecodeError::NotAValue);
     };
     let (items, rest) = items(alloc, depth, rest)?;
-    Ok((Node::List(item_type, items), rest))
+    Ok((Node::List(Rc::new(alloc, item_type)?, items), rest))
 }
 
 /// A node whose parts nest at most so deep.

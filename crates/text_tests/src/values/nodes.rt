@@ -2,6 +2,7 @@
 
 use per_base::Bytes;
 use std::alloc::{AllocError, Global};
+use std::rc::Rc;
 use test_rows::{RowError, number};
 use typed_value::{Node, Value, ValueError, ValueType, parse_value};
 
@@ -27,10 +28,10 @@ pub(crate) fn said(made: Result<Value, ValueError>) -> &'static str {
 fn node_of(alloc: Global, word: &str, count: u32) -> Result<Node, RowError> {
     match word {
         "group" => Ok(Node::Fields(truths(alloc, count)?)),
-        "nested" => Ok(Node::List(nested(alloc, count)?, Vec::new(alloc))),
+        "nested" => Ok(Node::List(Rc::new(alloc, nested(alloc, count)?)?, Vec::new(alloc))),
         "octets" => Ok(octets(alloc, count)?),
-        "groups" => Ok(Node::List(members(alloc, count)?, Vec::new(alloc))),
-        "items" => Ok(Node::List(ValueType::U8, items(alloc, count)?)),
+        "groups" => Ok(Node::List(Rc::new(alloc, members(alloc, count)?)?, Vec::new(alloc))),
+        "items" => Ok(Node::List(Rc::new(alloc, ValueType::U8)?, items(alloc, count)?)),
         _ => Err(RowError::NotARow),
     }
 }
@@ -48,7 +49,7 @@ fn truths(alloc: Global, count: u32) -> Result<Vec<Node>, AllocError> {
 fn nested(alloc: Global, depth: u32) -> Result<ValueType, AllocError> {
     let mut item = ValueType::U8;
     for _ in 2..depth {
-        item = ValueType::List(Box::new(alloc, item)?);
+        item = ValueType::List(Rc::new(alloc, item)?);
     }
     Ok(item)
 }

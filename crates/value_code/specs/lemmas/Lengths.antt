@@ -1,5 +1,6 @@
 -- How long encodings are: no payload is empty, so a list has no more items than its payload has bytes.
 use Rattle.std.proofs.Common.{◌≡◌, ℕ, ◌≤◌, ◌<◌, ◌^◌, length, refl, arith, length-append, Vec, vec_len, Global}
+use Rattle.std.specs.declared.rc.Rc.{Rc}
 use Rattle.std.specs.Int.{w32, to_le_bytes, byte_len}
 use Rattle.value_model.specs.declared.types.ValueType.{ValueType}
 use Rattle.value_model.specs.declared.nodes.Node as nodes
@@ -64,10 +65,10 @@ list_few k ts typed short = omega (
   length-append (to_le_bytes w32 (count_trees ts)) (payloads ts),
 )
 
-pub items_few : (t : ValueType) (v : Vec Node Global) → IsTyped (tree_of (nodes.List t v))
-    → length (payload (tree_of (nodes.List t v))) ≤ 65536 → vec_len v < 2 ^ 32
-items_few t v typed short = rw (← counted v) (list_few (kind_of t) (trees_view v.items) (rw (tree_of-List t v) at typed)
-    (rw (tree_of-List t v) at short))
+pub items_few : (item : Rc ValueType Global) (v : Vec Node Global) → IsTyped (tree_of (nodes.List item v))
+    → length (payload (tree_of (nodes.List item v))) ≤ 65536 → vec_len v < 2 ^ 32
+items_few item v typed short = rw (← counted v) (list_few (kind_of item.value) (trees_view v.items)
+    (rw (tree_of-List item v) at typed) (rw (tree_of-List item v) at short))
 
 code_long : (k : Kind) → 1 ≤ length (type_code k)
 code_long bool_kind = omega arith

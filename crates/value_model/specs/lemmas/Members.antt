@@ -1,6 +1,7 @@
 -- The kinds and trees of lists: how many there are, and what is left of them in a loop.
 use Rattle.std.proofs.Common.{◌≡◌, ◌≢◌, ◌≤◌, ◌↔◌, ◌++◌, ℕ, suc, true, false, drop, List, [], ◌∷◌, length, map, refl, ap}
-use Rattle.std.proofs.Common.{sym, ◌∙◌, ◌&&◌, Vec, Box, vec_len, Global, rules}
+use Rattle.std.proofs.Common.{sym, ◌∙◌, ◌&&◌, Vec, vec_len, Global, rules}
+use Rattle.std.specs.declared.rc.Rc.{Rc}
 use Rattle.value_model.specs.declared.types.ValueType as types
 use Rattle.value_model.specs.declared.types.ValueType.{ValueType}
 use Rattle.value_model.specs.declared.nodes.Node as nodes
@@ -60,12 +61,12 @@ pub fits-Fields : (v : Vec ValueType Global) → kind_fits (kind_of (types.Field
     ≡ (is_group (vec_len v) && kinds_fit (kinds_view v.items))
 fits-Fields v = rw (kind_of-Fields v, count_kinds-view v.items, len-items v) refl
 
-pub kind_of-List : (b : Box ValueType Global) → kind_of (types.List b) ≡ list_kind (kind_of b.value)
-kind_of-List b = search (rules, types.the_lemmas)
+pub kind_of-List : (item : Rc ValueType Global) → kind_of (types.List item) ≡ list_kind (kind_of item.value)
+kind_of-List item = search (rules, types.the_lemmas)
 
-pub tree_of-List : (t : ValueType) (v : Vec Node Global)
-    → tree_of (nodes.List t v) ≡ list_tree (kind_of t) (trees_view v.items)
-tree_of-List t v = search (rules, nodes.the_lemmas)
+pub tree_of-List : (item : Rc ValueType Global) (v : Vec Node Global)
+    → tree_of (nodes.List item v) ≡ list_tree (kind_of item.value) (trees_view v.items)
+tree_of-List item v = search (rules, nodes.the_lemmas)
 
 pub tree_of-Fields : (v : Vec Node Global) → tree_of (nodes.Fields v) ≡ fields_tree (trees_view v.items)
 tree_of-Fields v = search (rules, nodes.the_lemmas)

@@ -12,7 +12,8 @@ invariant_of-self-in-None c = rw c.in_ok-push-in-None.ensures.items (pushed_firs
     (rw c.in-None.is at c.self.invariant))
 
 pub invariant_of-self-in-Some-first : goal.invariant_of-self-in-Some-first
-invariant_of-self-in-Some-first c = rw c.in_ok-push-in-Some-first.ensures.items (pushed_later _ c.in-Some-first.field-0.items _ _
+invariant_of-self-in-Some-first c = rw c.in_ok-push-in-Some-first.ensures.items (
+    pushed_later _ c.in-Some-first.field-0.items _ _
     (ap (λ (first : Option (Vec ℕ Global)). option_map (λ f. f.items) first) c.in-Some-first.is) c.self.invariant)
 
 pub returns-in_ok-push-in-None : goal.returns-in_ok-push-in-None
