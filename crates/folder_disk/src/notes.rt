@@ -7,7 +7,7 @@ ghost use Rattle.folder_disk.specs.Knows.{Covered};
 use crate::range::Range;
 
 /// With how many bytes that wait for a sync a file is synced unasked: 512 KiB. What is noted is read again before a
-/// sync, which so has less than that to hold, but after one that failed.
+/// sync, so this is what it has to hold at most, but after one that failed.
 pub(crate) const MOST_BYTES: u64 = 524_288;
 
 /// In how many ranges they may wait.
