@@ -5,8 +5,9 @@ ghost use Rattle.value_code.specs.Reading.{decoded, is_encoding};
 ghost use Rattle.value_model.specs.Encoding.{encoding};
 ghost use Rattle.value_model.specs.Trees.{type_of};
 ghost use Rattle.value_model.specs.Validity.{IsValue};
+ghost use Rattle.key_maps.specs.KeyElements.{IsStoredValue};
 
-use crate::type_codes::begin_with_type_of;
+use crate::type_codes::has_type_of;
 use per_base::Bytes;
 use std::alloc::{AllocError, Global};
 use std::cell::OnceCell;
@@ -80,7 +81,7 @@ impl StoredValue {
         // There always is one.
         ensures readable { IsTrue (is_encoding self.now) }
     {
-        match decode(alloc, self.as_slice()) {
+        match decode(alloc, self.bytes.as_slice()) {
             Ok(value) => Ok(value),
             Err(_) => Err(AllocError),
         }
@@ -96,10 +97,10 @@ impl StoredValue {
         ensures readable { IsTrue (is_encoding self.now) }
     {
         let lent = self.lent.get_or_try_init(|| Lent::new(alloc, self))?;
-        if lent.bytes.as_slice() != self.as_slice() {
+        if lent.as_slice() != self.bytes.as_slice() {
             return Err(AllocError);
         }
-        Ok(&lent.value)
+        Ok(lent.value())
     }
 
     /// Whether the value has the type of the other one. Does not allocate.
@@ -109,7 +110,7 @@ impl StoredValue {
         // There always is a value.
         ensures readable { IsTrue (is_encoding self.now) }
     {
-        begin_with_type_of(self.as_slice(), other.node())
+        has_type_of(self.bytes.as_slice(), other)
     }
 
     /// The encoding.
@@ -144,12 +145,22 @@ impl StoredValue {
     }
 }
 
-/// A value that is lent, and the bytes that encode it.
+/// A value that is lent, and its encoding, which contracts see.
 #[derive(Drop)]
 struct Lent {
     bytes: Bytes,
     value: Value,
-    ghost of_each_other: { IsStoredValue bytes value },
+}
+
+impl Model for Lent {
+    ghost use Rattle.std.specs.Prelude.{ℕ, List};
+    ghost use Rattle.key_maps.specs.KeyElements.{IsStoredValue};
+
+    ghost Value = { List ℕ };
+
+    ghost view = { λ l. l.bytes };
+
+    ghost invariant = { λ l. IsStoredValue l.bytes l.value };
 }
 
 impl Lent {
@@ -157,5 +168,17 @@ impl Lent {
         let bytes = stored.copy_bytes()?;
         let value = stored.value(alloc)?;
         Ok(Box::new(alloc, Lent { bytes, value })?)
+    }
+
+    fn as_slice(&self) -> &[u8]
+        ensures { result.now ≡ self.now }
+    {
+        self.bytes.as_slice()
+    }
+
+    fn value(&self) -> &Value
+        ensures { IsStoredValue self.now result.now }
+    {
+        &self.value
     }
 }

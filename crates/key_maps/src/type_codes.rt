@@ -1,12 +1,13 @@
 //! Whether bytes begin with the code of a type. Nothing here allocates.
 
-ghost use Rattle.std.specs.Prelude.{◌≡◌, ◌∷◌, [], is_some, option_copied};
+ghost use Rattle.std.specs.Prelude.{◌≡◌, ◌↔◌, ◌∷◌, [], IsTrue, Some, is_some, option_copied, option_map};
 ghost use Rattle.key_maps.specs.Fronts.{after};
+ghost use Rattle.value_code.specs.Reading.{decoded, is_encoding};
 ghost use Rattle.value_model.specs.Kinds.{type_code, type_codes};
 ghost use Rattle.value_model.specs.Trees.{type_of, types_of};
 ghost use Rattle.value_model.specs.Views.{kind_of, kinds_view, tree_of, trees_view};
 
-use value_model::{Node, ValueType};
+use value_model::{Node, Value, ValueType};
 
 // The first byte of the code of each type.
 const BOOL: usize = 1;
@@ -23,8 +24,16 @@ const BYTES: usize = 11;
 const LIST: usize = 12;
 const FIELDS: usize = 13;
 
+/// Whether the value that the bytes encode has the type of the other one.
+pub(crate) fn has_type_of(bytes: &[u8], other: &Value) -> bool
+    requires { IsTrue (is_encoding bytes.now) }
+    ensures { IsTrue result ↔ (option_map type_of (decoded bytes.now) ≡ Some (type_of other.now)) }
+{
+    begin_with_type_of(bytes, other.node())
+}
+
 /// Whether the bytes begin with the code of the node's type.
-pub(crate) fn begin_with_type_of(bytes: &[u8], node: &Node) -> bool
+fn begin_with_type_of(bytes: &[u8], node: &Node) -> bool
     ensures { result ≡ is_some (after (type_code (type_of (tree_of node.now))) bytes.now) }
 {
     after_type_of(node, bytes).is_some()

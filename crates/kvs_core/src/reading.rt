@@ -3,7 +3,7 @@
 ghost use Rattle.std.specs.Prelude.{◌≡◌, ◌≢◌, IfErr, IfOk, IsTrue};
 ghost use Rattle.per_base.specs.declared.errors.Unit.TheVariants.{Part};
 ghost use Rattle.per_base.specs.Maps.{element_at, has, names_of, size_of};
-ghost use Rattle.per_base.specs.Refusals.{IsRefusal, IsTextRefusal, NeedsMemory};
+ghost use Rattle.per_base.specs.Refusals.{IsRefusal, NeedsMemory};
 ghost use Rattle.value_model.specs.Kinds.{kind_fits};
 ghost use Rattle.value_model.specs.Validity.{IsValue};
 ghost use Rattle.value_model.specs.Views.{kind_of};
@@ -64,7 +64,7 @@ impl KeySession {
     /// # Errors
     ///
     /// `KeyNotFound` where it is not visible; `IntegrityCorrupted` where it is unreadable; `OutOfMemory`.
-    #[tactic(auto, using(crate::proofs::Contents::read_stored, crate::proofs::Contents::read_bad, crate::proofs::Contents::reads_needs))]
+    #[tactic(auto, using(crate::proofs::Contents::reads_needs))]
     pub fn get_any(&self, name: &Name) -> Result<&Value, PerError>
         // The value, which is a valid one, or the refusal that is due.
         ensures ok { IfOk result (λ value. calls.get_any self.now.config self.now.visible name.now ≡ Ok value.now) }
@@ -86,7 +86,7 @@ impl KeySession {
     /// # Errors
     ///
     /// `KeyNotFound` where it is not visible; `IntegrityCorrupted` where it is unreadable; `OutOfMemory`.
-    #[tactic(auto, using(crate::proofs::Contents::read_stored, crate::proofs::Contents::read_bad, crate::proofs::Contents::reads_needs))]
+    #[tactic(auto, using(crate::proofs::Contents::reads_needs))]
     pub fn get_copy(&self, name: &Name) -> Result<Value, PerError>
         // The value, which is a valid one, or the refusal that is due.
         ensures ok { IfOk result (λ value. calls.get_any self.now.config self.now.visible name.now ≡ Ok value) }
@@ -104,13 +104,14 @@ impl KeySession {
     }
 
     /// What is stored of the value of a key, or the refusal of `get_any`.
+    #[tactic(auto, using(crate::proofs::Contents::read_stored, crate::proofs::Contents::read_bad))]
     fn stored(&self, name: &Name) -> Result<&StoredValue, PerError>
         ensures ok { IfOk result (λ stored. calls.get_any self.now.config self.now.visible name.now
             ≡ calls.readable_value (decoded stored.now)) }
         ensures refused { IfErr result (λ error. IsRefusal (calls.get_any self.now.config self.now.visible name.now)
             error) }
         ensures memory { IfErr result (λ error. error ≡ PerError.OutOfMemory
-            → IsTextRefusal (calls.get_any self.now.config self.now.visible name.now)) }
+            → NeedsMemory (calls.get_any self.now.config self.now.visible name.now)) }
     {
         let Some(key) = self.maps.get(name) else {
             return Err(PerError::KeyNotFound);

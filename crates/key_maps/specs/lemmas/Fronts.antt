@@ -1,11 +1,18 @@
 -- Texts at the start of bytes: of two that follow one another, and of the code of a type, which tells the type.
 use Rattle.std.proofs.Common.{◌≡◌, ℕ, List, [], ◌∷◌, ◌++◌, Bool, true, false, cond, Option, Some, None, refl, sym, ap}
-use Rattle.std.proofs.Common.{◌∙◌}
+use Rattle.std.proofs.Common.{◌∙◌, Vec, vec_len, Global}
 use Rattle.std.specs.Prelude.{◌≤◌, length, nat_eq, nat_lt, option_and_then, option_map, is_some, IsTrue, ◌↔◌}
 use Rattle.std.proofs.lemmas.Bool.{eqb-true, eq-eqb, ltb-false}
 use Rattle.per_base.specs.Fields.{◌>>=◌, AreBytes}
-use Rattle.value_model.specs.Kinds.{Kind, type_code}
-use Rattle.value_model.specs.Trees.{Tree, type_of}
+use Rattle.value_model.specs.declared.nodes.Node as nodes
+use Rattle.value_model.specs.declared.nodes.Node.{Node}
+use Rattle.value_model.specs.declared.types.ValueType as types
+use Rattle.value_model.specs.declared.types.ValueType.{ValueType}
+use Rattle.value_model.specs.Kinds.{Kind, type_code, type_codes}
+use Rattle.value_model.specs.Trees.{Tree, type_of, types_of}
+use Rattle.value_model.specs.Views.{kind_of, kinds_view, tree_of, trees_view}
+use Rattle.value_model.specs.lemmas.Members.{count_kinds-view, count_types, counted, kind_of-Fields, len-items}
+use Rattle.value_model.specs.lemmas.Members.{tree_of-Fields}
 use Rattle.value_model.specs.Encoding.{payload}
 use Rattle.value_model.specs.Validity.{IsValue, max_depth, max_length}
 use Rattle.value_code.specs.Reading.{decoded, is_encoding, if_whole, kind_at, tree_at}
@@ -17,12 +24,12 @@ use Rattle.key_maps.specs.Fronts.{after}
 pub after_both : (xs ys bytes : List ℕ) → after (xs ++ ys) bytes ≡ option_and_then (after ys) (after xs bytes)
 after_both [] ys bytes = refl
 after_both (x ∷ xs) ys [] = refl
-after_both (x ∷ xs) ys (b ∷ bytes) = by (nat_eq x b)
+after_both (x ∷ xs) ys (b ∷ bytes) = by (after_both xs ys bytes) (nat_eq x b)
   where
-    by : (same : Bool) → cond same (after (xs ++ ys) bytes) None
-        ≡ option_and_then (after ys) (cond same (after xs bytes) None)
-    by true = after_both xs ys bytes
-    by false = refl
+    by : after (xs ++ ys) bytes ≡ option_and_then (after ys) (after xs bytes) → (same : Bool)
+        → cond same (after (xs ++ ys) bytes) None ≡ option_and_then (after ys) (cond same (after xs bytes) None)
+    by later true = later
+    by later false = refl
 
 after_again : (xs ys : List ℕ) → after xs (xs ++ ys) ≡ Some ys
 after_again [] ys = refl
@@ -31,11 +38,12 @@ after_again (x ∷ xs) ys = rw (eq-eqb x x refl) (after_again xs ys)
 after_found : (xs bytes rest : List ℕ) → after xs bytes ≡ Some rest → bytes ≡ xs ++ rest
 after_found [] bytes rest is = cc
 after_found (x ∷ xs) [] rest is = absurd cc
-after_found (x ∷ xs) (b ∷ bytes) rest is = by (nat_eq x b) refl is
+after_found (x ∷ xs) (b ∷ bytes) rest is = by (after_found xs bytes rest) (nat_eq x b) refl is
   where
-    by : (same : Bool) → nat_eq x b ≡ same → cond same (after xs bytes) None ≡ Some rest → b ∷ bytes ≡ x ∷ (xs ++ rest)
-    by true e found = rw (eqb-true x b e, after_found xs bytes rest found) refl
-    by false e found = absurd cc
+    by : (after xs bytes ≡ Some rest → bytes ≡ xs ++ rest) → (same : Bool) → nat_eq x b ≡ same
+        → cond same (after xs bytes) None ≡ Some rest → b ∷ bytes ≡ x ∷ (xs ++ rest)
+    by later true e found = rw (eqb-true x b e, later found) refl
+    by later false e found = absurd cc
 
 -- ---- one text after the other, in a loop over both
 
@@ -56,6 +64,31 @@ after_less codes first others bytes whole parts is so_far =
     ap (λ (text : List ℕ). after text bytes) parts
     ∙ after_both first others bytes ∙ ap (option_and_then (after others)) (sym is) in
     sym step ∙ so_far
+
+-- ---- the code of a group: 13, a count, and the codes of its members
+
+pub types_code : (members : Vec ValueType Global)
+    → type_code (kind_of (types.Fields members)) ≡ 13 ∷ vec_len members ∷ type_codes (kinds_view members.items)
+types_code members = rw (kind_of-Fields members, count_kinds-view members.items, len-items members) refl
+
+pub nodes_code : (members : Vec Node Global) → type_code (type_of (tree_of (nodes.Fields members)))
+    ≡ 13 ∷ vec_len members ∷ type_codes (types_of (trees_view members.items))
+nodes_code members = rw (tree_of-Fields members, count_types (trees_view members.items), counted members) refl
+
+-- the count is another one
+pub after_count : (count : ℕ) (codes bytes rest : List ℕ) → Some rest ≡ after (13 ∷ []) bytes
+    → None ≡ after (count ∷ []) rest → None ≡ after (13 ∷ count ∷ codes) bytes
+after_count count codes bytes rest group other =
+    after_less (count ∷ codes) (count ∷ []) codes rest (after (13 ∷ count ∷ codes) bytes) refl other
+    (after_more (13 ∷ count ∷ codes) (13 ∷ []) (count ∷ codes) bytes rest (after (13 ∷ count ∷ codes) bytes) refl group
+    refl)
+
+pub after_members : (count : ℕ) (codes bytes rest members : List ℕ) → Some rest ≡ after (13 ∷ []) bytes
+    → Some members ≡ after (count ∷ []) rest → after codes members ≡ after (13 ∷ count ∷ codes) bytes
+after_members count codes bytes rest members group same =
+    after_more (count ∷ codes) (count ∷ []) codes rest members (after (13 ∷ count ∷ codes) bytes) refl same
+    (after_more (13 ∷ count ∷ codes) (13 ∷ []) (count ∷ codes) bytes rest (after (13 ∷ count ∷ codes) bytes) refl group
+    refl)
 
 -- ---- encodings
 
