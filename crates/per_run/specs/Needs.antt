@@ -7,7 +7,7 @@ use Rattle.command_text.specs.declared.lines.Line.TheVariants as line
 use Rattle.command_text.specs.Grammar.{IsLine}
 use Rattle.command_text.specs.Memory.{Allocates}
 use Rattle.command_text.specs.declared.replies.Reply.{Reply}
-use Rattle.run_model.specs.Edges.{Converters}
+use Rattle.run_model.specs.Converters.{Converters}
 use Rattle.run_model.specs.Lines.{IsBad}
 use Rattle.run_model.specs.Runtimes.{Memory, world_of}
 use Rattle.per_runtime.specs.Needs.{CommandMayStarve}

@@ -4,8 +4,8 @@ ghost use Rattle.std.specs.Prelude.{◌≡◌, ℕ, List, IsTrue, None, ◌≢�
 ghost use Rattle.disk_model.specs.Medium.{Elapses};
 ghost use Rattle.command_text.specs.Grammar.{IsEvent, IsLine};
 ghost use Rattle.command_text.specs.declared.lines.Line.{Line};
+ghost use Rattle.run_model.specs.Converters.{converters_of};
 ghost use Rattle.run_model.specs.Runtimes.{world_of};
-ghost use Rattle.run_model.specs.Edges.{converters_of};
 ghost use Rattle.per_runtime.specs.Memories.{IsRuntime, memory_of};
 ghost use Rattle.per_runtime.specs.Needs.{CommandMayStarve};
 ghost use Rattle.per_run.specs.Needs.{LineMayStarve};

@@ -17,7 +17,6 @@ use Rattle.element_maps.specs.Sessions.{same_map, view_once_synced}
 use Rattle.file_core.specs.Places.{writes}
 use Rattle.file_handles.specs.Sessions.{lowest}
 use Rattle.file_handles.specs.Handling.{at_handle}
-use Rattle.migrate_fns.specs.Rules.{Rule, Answers}
 use Rattle.command_text.specs.declared.calls.Call.{Call}
 use Rattle.command_text.specs.declared.calls.Call.TheVariants as call
 use Rattle.command_text.specs.declared.replies.Answer.{Answer}
@@ -29,6 +28,7 @@ use Rattle.deploy_laws.specs.Apps.{Says, nothing, absent, installed, App}
 use Rattle.deploy_rows.specs.Rows.{◌>>=◌, InProgress, BeginsUpdate, installing, finishing, rolling_back, wiping}
 use Rattle.deploy_rows.specs.Rows.{updated_app, one_more}
 use Rattle.deploy_rows.specs.Recovering.{recovering, resetting}
+use Rattle.run_model.specs.Converters.{Converters}
 use Rattle.run_model.specs.Found.{FoundStorage, storage_in, shape_in, with_storage_state}
 use Rattle.run_model.specs.Sessions.{Session, keys, files, in_session, session_of, synced_in_session, seen_of}
 use Rattle.run_model.specs.Sessions.{made_durable}
@@ -317,20 +317,21 @@ abbrev pub with_update_begun : Application → InProgress → Result Outcome Per
 with_update_begun r p = Ok (answered answer.Done (record r { stage = updating p }))
 
 -- an update to the manifest `text` begins by one plan, from which the call goes on by `after`, or is refused
-abbrev pub BeginsBy : List Rule → Answers → (now : ℕ) → Application → (text : List ℕ)
+abbrev pub BeginsBy : Converters → (now : ℕ) → Application → (text : List ℕ)
     → (InProgress → Result Outcome PerError) → Outcome → Type 0
-BeginsBy rules answers now r text after outcome = (row : Result InProgress PerError)
-    × BeginsUpdate rules answers now (least_open r) text r.disk row × (outcome ≡ concluded r (row >>= after))
+BeginsBy converters now r text after outcome = (row : Result InProgress PerError)
+    × BeginsUpdate converters.rules converters.answers now (least_open r) text r.disk row
+    × (outcome ≡ concluded r (row >>= after))
 
 -- a call on application r at the moment now may have this outcome; updates may have several, by what converters answer
-abbrev pub CallStep : List Rule → Answers → (app now : ℕ) → Application → Call → Outcome → Type 0
-CallStep rules answers app now r (call.Update text) outcome = BeginsBy rules answers now r text (with_update r) outcome
-CallStep rules answers app now r (call.UpdateBegin text) outcome = BeginsBy rules answers now r text
+abbrev pub CallStep : Converters → (app now : ℕ) → Application → Call → Outcome → Type 0
+CallStep converters app now r (call.Update text) outcome = BeginsBy converters now r text (with_update r) outcome
+CallStep converters app now r (call.UpdateBegin text) outcome = BeginsBy converters now r text
     (with_update_begun r) outcome
-CallStep rules answers app now r other outcome = outcome ≡ concluded r (app_step app r now other)
+CallStep converters app now r other outcome = outcome ≡ concluded r (app_step app r now other)
 
 -- a call on application r at the moment now may have this outcome: the refusal that an update in progress gives, if it
 -- gives one, and else that of the call by itself (`CallStep`)
-abbrev pub StepBeside : List Rule → Answers → (app now : ℕ) → Application → Call → Option PerError → Outcome → Type 0
-StepBeside rules answers app now r c (Some e) outcome = outcome ≡ answered (answer.Error e) r
-StepBeside rules answers app now r c None outcome = CallStep rules answers app now r c outcome
+abbrev pub StepBeside : Converters → (app now : ℕ) → Application → Call → Option PerError → Outcome → Type 0
+StepBeside converters app now r c (Some e) outcome = outcome ≡ answered (answer.Error e) r
+StepBeside converters app now r c None outcome = CallStep converters app now r c outcome

@@ -14,7 +14,6 @@ use Rattle.element_state.specs.States.{Opens}
 use Rattle.element_state.specs.Written.{IsWithin, map_cost}
 use Rattle.element_maps.specs.Sessions.{same_map, view_once_synced}
 use Rattle.element_store.specs.Committing.{index_length}
-use Rattle.migrate_fns.specs.Rules.{Rule, Answers}
 use Rattle.command_text.specs.declared.calls.Call.{Call}
 use Rattle.command_text.specs.declared.calls.Call.TheVariants as call
 use Rattle.command_text.specs.declared.calls.Event.{Event}
@@ -25,6 +24,7 @@ use Rattle.command_text.specs.declared.replies.Reply.{Reply}
 use Rattle.deploy_laws.specs.Apps.{App, app_at, IsCleanApp}
 use Rattle.deploy_laws.specs.Places.{IsBeside, IsNoFileOf, root_place}
 use Rattle.run_model.specs.Calls.{session_at}
+use Rattle.run_model.specs.Converters.{Converters}
 use Rattle.run_model.specs.Costs.{roots_cost}
 use Rattle.run_model.specs.Found.{FoundStorage, shape_in}
 use Rattle.run_model.specs.Lasting.{IsWorld}
@@ -194,20 +194,20 @@ WrittenBy w e old new = CostsBy w e old.written new.written
 
 -- A step on this stretch of the disk: in a doubt no byte is written before the sync that is to end it, so one that
 -- failed only read.
-abbrev pub StepsOn : List Rule → Answers → World → Event → Reply → World → (old new : Medium) → Type 0
-StepsOn rules answers w e reply w' old new = Step rules answers w e reply w'
-    ⊎ ((SyncFails w e reply w' × OnlyReads old new) ⊎ FailsElsewhere rules answers w e reply w')
+abbrev pub StepsOn : Converters → World → Event → Reply → World → (old new : Medium) → Type 0
+StepsOn converters w e reply w' old new = Step converters w e reply w'
+    ⊎ ((SyncFails w e reply w' × OnlyReads old new) ⊎ FailsElsewhere converters w e reply w')
 
 -- A command that was answered: it leads from the world before it to one after it, and keeps each application at every
 -- moment. A doubt that is new has a case of the disk, whose image is what reads now give.
-pub record Stepped (rules : List Rule) (answers : Answers) (e : Event) (reply : Reply) (old_memory new_memory : Memory)
+pub record Stepped (converters : Converters) (e : Event) (reply : Reply) (old_memory new_memory : Memory)
     (doubt : Option Doubt) (old new : Medium) : Type 0 where
   pub eight : length new_memory.apps ≡ 8
   -- the doubt after the command: there is one where the memory says so
   pub doubt' : Option Doubt
   pub is_doubt : IsDoubt new_memory doubt'
   -- the command leads from the world before it to the one after it, in which all holds that holds of every world
-  pub step : StepsOn rules answers (world_of old.image old_memory doubt) e reply (world_of new.image new_memory doubt')
+  pub step : StepsOn converters (world_of old.image old_memory doubt) e reply (world_of new.image new_memory doubt')
       old new
   pub world : IsWorld (world_of new.image new_memory doubt')
   -- each application is kept at each moment of the command
@@ -225,7 +225,7 @@ pub record Stepped (rules : List Rule) (answers : Answers) (e : Event) (reply : 
   pub written : WrittenBy (world_of old.image old_memory doubt) e old new
   -- it writes no more than it costs (`call_cost`), and beside slots of the root no file changes but in the places of
   -- the storages that it makes or names
-  pub within : IsCommandWithin rules answers (world_of old.image old_memory doubt) e (bytes_now old) (bytes_now new)
+  pub within : IsCommandWithin converters (world_of old.image old_memory doubt) e (bytes_now old) (bytes_now new)
   -- one that is refused writes no more than the opening of its root, where that is to be opened
   pub refused : is_refusal reply.answer ≡ true
       → OnlyOpens (world_of old.image old_memory doubt) e (bytes_now old) (bytes_now new)
@@ -233,11 +233,11 @@ pub record Stepped (rules : List Rule) (answers : Answers) (e : Event) (reply : 
   pub blamed : IsBlamed old.faults new.faults reply
 
 -- A command for which memory ran out: it is in progress.
-pub record Stopped (rules : List Rule) (answers : Answers) (e : Event) (memory : Memory) (doubt : Option Doubt)
+pub record Stopped (converters : Converters) (e : Event) (memory : Memory) (doubt : Option Doubt)
     (old new : Medium) : Type 0 where
   -- what the command leads to on the disk of each application, or what was there before
   pub after : Disks
-  pub leads : Leads rules answers (world_of old.image memory doubt) e after
+  pub leads : Leads converters (world_of old.image memory doubt) e after
   -- at each moment each application stands between what was and that
   pub keeps : (app : ℕ) → app < 8 → StopKeeps app (world_of old.image memory doubt) after old new
   -- which files it may touch, and how much it may write
@@ -245,4 +245,4 @@ pub record Stopped (rules : List Rule) (answers : Answers) (e : Event) (memory :
   pub place : Spares (IsBesideNamed (world_of old.image memory doubt) e) old.image new.image
   pub unwritten : only_looks (world_of old.image memory doubt) e ≡ true → IsUnwritten old new
   pub written : WrittenBy (world_of old.image memory doubt) e old new
-  pub within : IsCommandWithin rules answers (world_of old.image memory doubt) e (bytes_now old) (bytes_now new)
+  pub within : IsCommandWithin converters (world_of old.image memory doubt) e (bytes_now old) (bytes_now new)

@@ -30,7 +30,6 @@ use Rattle.disk_model.specs.Case.{Case}
 use Rattle.element_state.specs.Changes.{committed}
 use Rattle.element_state.specs.Reports.{reports}
 use Rattle.element_state.specs.States.{Opens, Corrupt, fresh_state, mended_view}
-use Rattle.migrate_fns.specs.Rules.{Rule, Answers}
 use Rattle.command_text.specs.declared.calls.Call.{Call}
 use Rattle.command_text.specs.declared.calls.Call.TheVariants as call
 use Rattle.command_text.specs.declared.calls.Event.{Event}
@@ -43,6 +42,7 @@ use Rattle.deploy_laws.specs.Places.{storage_shape}
 use Rattle.deploy_rows.specs.Rows.{InProgress, installing, installed_app, finishing, rolling_back, wiping, offered}
 use Rattle.deploy_rows.specs.Rows.{updated_app}
 use Rattle.deploy_rows.specs.Recovering.{recovering, resetting}
+use Rattle.run_model.specs.Converters.{Converters}
 use Rattle.run_model.specs.Sessions.{on_keys, on_working}
 use Rattle.run_model.specs.Worlds.{Application, World, world_at, update_in, disks, no_app, resting, app_of, with_app}
 use Rattle.run_model.specs.Worlds.{formatted, after_run, after_start}
@@ -105,26 +105,26 @@ begins_update (call.Update text) = true
 begins_update (call.UpdateBegin text) = true
 begins_update other = false
 
-call_is : (rules : List Rule) (answers : Answers) (app now : ℕ) (r : Application) (p : InProgress) (c : Call)
+call_is : (converters : Converters) (app now : ℕ) (r : Application) (p : InProgress) (c : Call)
     → begins_update c ≡ false
-    → CallStep rules answers app now r c (given_step app now r p c)
-call_is rules answers app now r p (call.Update text) calm = absurd (true≢false calm)
-call_is rules answers app now r p (call.UpdateBegin text) calm = absurd (true≢false calm)
-call_is rules answers app now r p other calm = refl
+    → CallStep converters app now r c (given_step app now r p c)
+call_is converters app now r p (call.Update text) calm = absurd (true≢false calm)
+call_is converters app now r p (call.UpdateBegin text) calm = absurd (true≢false calm)
+call_is converters app now r p other calm = refl
 
-beside_is : (rules : List Rule) (answers : Answers) (app now : ℕ) (r : Application) (p : InProgress) (c : Call)
+beside_is : (converters : Converters) (app now : ℕ) (r : Application) (p : InProgress) (c : Call)
     (e : Option PerError) → begins_update c ≡ false
-    → StepBeside rules answers app now r c e (given_beside app now r p c e)
-beside_is rules answers app now r p c (Some e) calm = refl
-beside_is rules answers app now r p c None calm = call_is rules answers app now r p c calm
+    → StepBeside converters app now r c e (given_beside app now r p c e)
+beside_is converters app now r p c (Some e) calm = refl
+beside_is converters app now r p c None calm = call_is converters app now r p c calm
 
 -- each command of a course is a step of the world, where it begins no update
-pub step_is : (rules : List Rule) (answers : Answers) (p : InProgress) (w : World) (app : ℕ) (c : Call)
+pub step_is : (converters : Converters) (p : InProgress) (w : World) (app : ℕ) (c : Call)
     → begins_update c ≡ false
-    → Step rules answers w (event.App app c) (stepped p w (event.App app c)).0 (stepped p w (event.App app c)).1
-step_is rules answers p w app c calm = (
+    → Step converters w (event.App app c) (stepped p w (event.App app c)).0 (stepped p w (event.App app c)).1
+step_is converters p w app c calm = (
   outcome_of app w.now (app_of w app) p c,
-  beside_is rules answers app w.now (root_opened (app_of w app)) p c
+  beside_is converters app w.now (root_opened (app_of w app)) p c
       (beside_update (update_in (root_opened (app_of w app)).stage) c) calm,
   refl,
   refl,
@@ -397,11 +397,11 @@ failing w c read = record (with_app w 0 (after_failure (app_of w 0).disk (root_o
       doubt = Some (record { before = disks w; after = disks w; case = read });
     }
 
-failing_is : (rules : List Rule) (answers : Answers) (w : World) (c : Call) (read : Case)
+failing_is : (converters : Converters) (w : World) (c : Call) (read : Case)
     → IsTrue (reaches_device 0 (root_opened (app_of w 0)) w.now c)
     → app_at read.left 0 ≡ (app_of w 0).disk → world_at read.left ≡ after_run (failing w c read)
-    → FailsElsewhere rules answers w (on c) failure (failing w c read)
-failing_is rules answers w c read reaches same there = (
+    → FailsElsewhere converters w (on c) failure (failing w c read)
+failing_is converters w c read reaches same there = (
   after_failure (app_of w 0).disk (root_opened (app_of w 0)) (found_named (root_opened (app_of w 0)) c),
   disks w,
   read,

@@ -8,7 +8,6 @@ use Rattle.disk_model.specs.Image.{Image}
 use Rattle.disk_model.specs.Place.{IsNoSlot, IsOutside}
 use Rattle.element_state.specs.declared.shapes.Shape.{Shape}
 use Rattle.guarded_cell.specs.Register.{IsAlone}
-use Rattle.migrate_fns.specs.Rules.{Rule, Answers}
 use Rattle.command_text.specs.declared.calls.Call.{Call}
 use Rattle.command_text.specs.declared.calls.Call.TheVariants as call
 use Rattle.command_text.specs.declared.calls.Event.{Event}
@@ -18,6 +17,7 @@ use Rattle.deploy_laws.specs.Places.{IsBeside, root_place, shapes_from}
 use Rattle.deploy_rows.specs.Costs.{manifests_at, storages_said}
 use Rattle.deploy_rows.specs.Rows.{BeginsUpdate, InProgress}
 use Rattle.run_model.specs.Calls.{least_open}
+use Rattle.run_model.specs.Converters.{Converters}
 use Rattle.run_model.specs.Costs.{call_cost, opening_cost, update_cost}
 use Rattle.run_model.specs.Found.{FoundStorage}
 use Rattle.run_model.specs.Steps.{device_storage, found_named}
@@ -54,19 +54,19 @@ LeavesRoots old new = (app : ℕ) → app < 8 → NeedsNothing old app → Spare
 -- ---- bytes
 
 -- an update writes nothing, or no more than it costs with the contents that it may begin with
-abbrev pub CostsUpdate : List Rule → Answers → (now : ℕ) → (kept : List (List ℕ)) → Application → List ℕ
+abbrev pub CostsUpdate : Converters → (now : ℕ) → (kept : List (List ℕ)) → Application → List ℕ
     → (before after : ℕ) → Type 0
-CostsUpdate rules answers now kept r manifest before after = (after ≤ before)
-    ⊎ ((p : InProgress) × BeginsUpdate rules answers now (least_open r) manifest r.disk (Ok p)
+CostsUpdate converters now kept r manifest before after = (after ≤ before)
+    ⊎ ((p : InProgress) × BeginsUpdate converters.rules converters.answers now (least_open r) manifest r.disk (Ok p)
     × (after ≤ before + update_cost kept manifest p))
 
 -- No more is written than a call costs at the moment `now`, of an application whose root is open and keeps these
 -- manifests. What costs nothing writes nothing.
-abbrev pub CostsCall : List Rule → Answers → (app now : ℕ) → (kept : List (List ℕ)) → Application → Call
+abbrev pub CostsCall : Converters → (app now : ℕ) → (kept : List (List ℕ)) → Application → Call
     → (before after : ℕ) → Type 0
-CostsCall rules answers app now kept r (call.Update manifest) before after =
-    CostsUpdate rules answers now kept r manifest before after
-CostsCall rules answers app now kept r other before after = after ≤ before + call_cost app now kept r other
+CostsCall converters app now kept r (call.Update manifest) before after =
+    CostsUpdate converters now kept r manifest before after
+CostsCall converters app now kept r other before after = after ≤ before + call_cost app now kept r other
 
 -- ---- files
 
@@ -110,19 +110,19 @@ IsBesideCall app r c file = IsNoSlot (root_place app) file × IsBesidePlaces app
 
 -- What a call on application `r` wrote, and which files it may have changed, also where its root was opened first: the
 -- root may then have been written once for that, and is not where it needs nothing (`already`).
-pub record IsCallWithin (rules : List Rule) (answers : Answers) (app now : ℕ) (r : Application) (c : Call)
+pub record IsCallWithin (converters : Converters) (app now : ℕ) (r : Application) (c : Call)
     (old new : DiskBytes) : Type 0 where
-  pub costs : CostsCall rules answers app now (manifests_at old.image app) r c
+  pub costs : CostsCall converters app now (manifests_at old.image app) r c
       (old.written + opening_cost (manifests_at old.image app) r.stage) new.written
   pub already : NeedsNothing old.image app
-      → CostsCall rules answers app now (manifests_at old.image app) r c old.written new.written
+      → CostsCall converters app now (manifests_at old.image app) r c old.written new.written
   pub files : Spares (IsBesideCall app r c) old.image new.image
 
 -- the same of a command
-abbrev pub IsCommandWithin : List Rule → Answers → World → Event → (old new : DiskBytes) → Type 0
-IsCommandWithin rules answers w (event.Now t) old new = ⊤
-IsCommandWithin rules answers w (event.App app c) old new =
-    IsCallWithin rules answers app w.now (app_of w app) c old new
+abbrev pub IsCommandWithin : Converters → World → Event → (old new : DiskBytes) → Type 0
+IsCommandWithin converters w (event.Now t) old new = ⊤
+IsCommandWithin converters w (event.App app c) old new =
+    IsCallWithin converters app w.now (app_of w app) c old new
 
 -- ---- a refused command
 

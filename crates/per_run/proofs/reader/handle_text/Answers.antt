@@ -3,12 +3,12 @@ use Rattle.std.proofs.Common.{List, ℕ, Bool, ◌∷◌, ◌≡◌, ◌⊎◌, 
 use Rattle.std.proofs.KnownBytes.{Appends-nil}
 use Rattle.std.proofs.lemmas.Result.{IfErr-weaker, on_ok_weaker}
 use Rattle.disk_model.specs.Medium.{Medium}
-use Rattle.migrate_fns.specs.Rules.{Answers, Rule}
 use Rattle.command_text.specs.Grammar.{IsLine}
 use Rattle.command_text.specs.declared.calls.Event.{Event}
 use Rattle.command_text.specs.declared.errors.LineError.{LineError}
 use Rattle.command_text.specs.declared.lines.Line.{Line}
 use Rattle.command_text.specs.declared.lines.Line.TheVariants as line
+use Rattle.run_model.specs.Converters.{Converters}
 use Rattle.run_model.specs.Runtimes.{Memory, world_of}
 use Rattle.per_runtime.specs.Needs.{CommandMayStarve}
 use Rattle.per_run.specs.Needs.{HandlingMayStarve, ReplyMayStarve}
@@ -16,7 +16,6 @@ use Rattle.per_run.specs.Steps.{runtime_at}
 use Rattle.per_run.proofs.Gives.{front_bad, front_says}
 use Rattle.per_run.proofs.Courses.{course_end, course_memory, course_refused, handled_nothing}
 use Rattle.per_run.proofs.reader.handle_text.Goals as goal
-use Rattle.per_run.proofs.Settings.{converting}
 
 -- the whole line says what its prefix does
 says : (text whole : List ℕ) (found said : Line) → found ≡ said → text ≡ take 262145 whole → IsLine text found
@@ -25,13 +24,13 @@ says text whole found said is front spelled =
     front_says text whole said front (subst (λ (l : Line). IsLine text l) is spelled)
 
 -- the command may need memory, or its reply's text
-starves : (told : Bool) (rules : List Rule) (answers : Answers) (text : List ℕ) (before after : Memory)
+starves : (told : Bool) (converters : Converters) (text : List ℕ) (before after : Memory)
     (old new : Medium) (event : Event) → IsLine text (line.Event event)
     → CommandMayStarve (world_of old.image before None) event
-    ⊎ ReplyMayStarve told (converting rules answers) text (runtime_at before old) (runtime_at after new)
-    → HandlingMayStarve told (converting rules answers) text (runtime_at before old) (runtime_at after new)
-starves told rules answers text before after old new event spelled (inl needs) = inl (inr (event, spelled, needs))
-starves told rules answers text before after old new event spelled (inr made) = inr (inl made)
+    ⊎ ReplyMayStarve told converters text (runtime_at before old) (runtime_at after new)
+    → HandlingMayStarve told converters text (runtime_at before old) (runtime_at after new)
+starves told converters text before after old new event spelled (inl needs) = inl (inr (event, spelled, needs))
+starves told converters text before after old new event spelled (inr made) = inr (inl made)
 
 pub returns-in-Ok-Nothing-clause-goes_on : goal.returns-in-Ok-Nothing-clause-goes_on
 returns-in-Ok-Nothing-clause-goes_on g c = λ start before lines whole front handled.
