@@ -8,7 +8,6 @@ use Rattle.std.specs.Str.{chars, is_utf8}
 use Rattle.per_base.specs.declared.elements.Content.{Content}
 use Rattle.per_base.specs.declared.elements.Content.TheVariants.{Good, Bad}
 use Rattle.per_base.specs.declared.elements.Fresh.{Fresh}
-use Rattle.per_base.specs.declared.elements.Scope.{Scope}
 use Rattle.per_base.specs.declared.elements.Scope.TheVariants as scope
 use Rattle.per_base.specs.declared.elements.StoreKind.TheVariants.{Keys, Files}
 use Rattle.per_base.specs.declared.errors.PerError.{PerError}
@@ -311,19 +310,24 @@ cal = codes "cal"
 abbrev pub map_file : List ℕ
 map_file = codes "map"
 
-abbrev pub file_storage : List ℕ → (maximum m n : ℕ) → Scope → (read_only : Bool) → List ElementData → StorageData
-file_storage name maximum m n s read_only elements = record {
+-- a storage of files of one copy
+abbrev pub file_storage : List ℕ → (maximum : ℕ) → List ElementData → StorageData
+file_storage name maximum elements = record {
   name = name;
   kind = Files;
   minimum = 0;
   maximum = maximum;
   strategy = collection.KeepExisting;
-  read_only = read_only;
-  m = m;
-  n = n;
-  scope = s;
+  read_only = false;
+  m = 1;
+  n = 1;
+  scope = scope.Element;
   elements = elements;
 }
+
+-- in three copies of which two must agree, sealed whole and only read
+abbrev pub sealed_storage : StorageData → StorageData
+sealed_storage s = record s { read_only = true; m = 2; n = 3; scope = scope.Storage }
 
 abbrev pub a_file : List ℕ → List ℕ → ElementData
 a_file name bytes = record { name = name; value_type = None; initial = Some bytes; strategy = None }
@@ -332,8 +336,7 @@ a_file name bytes = record { name = name; value_type = None; initial = Some byte
 abbrev pub a_map : World
 a_map = with_installed formatted 0 0 (record {
   version = 1;
-  storages =
-      file_storage cal 1048576 1 1 scope.Element false (a_file map_file (97 ∷ 98 ∷ 10 ∷ 99 ∷ 100 ∷ []) ∷ []) ∷ [];
+  storages = file_storage cal 1048576 (a_file map_file (97 ∷ 98 ∷ 10 ∷ 99 ∷ 100 ∷ []) ∷ []) ∷ [];
 })
 
 abbrev pub opening : OpenKind → ℕ → Event
@@ -595,9 +598,9 @@ navigation = record {
 abbrev pub driving : DeploymentData
 driving = record {
   version = 3;
-  storages = file_storage (codes "calibration") 1048576 2 3 scope.Storage true
-      (a_file (codes "lidar.cal") (10 ∷ 11 ∷ 12 ∷ []) ∷ [])
-      ∷ file_storage (codes "logs") 4194304 1 1 scope.Element false [] ∷ [];
+  storages = sealed_storage
+      (file_storage (codes "calibration") 1048576 (a_file (codes "lidar.cal") (10 ∷ 11 ∷ 12 ∷ []) ∷ []))
+      ∷ file_storage (codes "logs") 4194304 [] ∷ [];
 }
 
 abbrev pub morning : World
