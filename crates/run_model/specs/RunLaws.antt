@@ -40,7 +40,7 @@ use Rattle.run_model.specs.Steps.{calls_device, doubt_after}
 use Rattle.run_model.specs.MomentLaws.{last_is, start_stays, step_stays, end_stays, stop_stays, sound_front}
 use Rattle.run_model.specs.KeepLaws.{rests}
 use Rattle.run_model.specs.Runtimes.{Running, Memory, with_disk, world_of, StepsOn, Stepped, Stopped, Starts}
-use Rattle.run_model.specs.Runtimes.{StartKeeps, IsUnwritten, is_refusal, writes_none}
+use Rattle.run_model.specs.Runtimes.{StartKeeps, IsUnwritten}
 use Rattle.run_model.specs.Starting.{at_entry}
 use Rattle.run_model.specs.Bounds.{AreBounded, IsBounded, IsBegunWithin, StartsWithin, bytes_after}
 use Rattle.run_model.specs.Endings.{Ending, HasStarted, HasEnded, has_started}
@@ -237,8 +237,7 @@ after_on b (u ∷ us) t = after_on u.bytes us t
 
 bounded_on : (converters : Converters) (w : World) (b : DiskBytes) (ts : List Turn) (t : Turn)
     → AreBounded converters w b ts
-    → IsBounded converters (last_of w (worlds_of ts)) t.event
-    (writes_none (last_of w (worlds_of ts)) t.event t.reply) (is_refusal t.reply.answer) (bytes_after b ts) t.bytes
+    → IsBounded converters (last_of w (worlds_of ts)) t.event (Some t.reply) (bytes_after b ts) t.bytes
     → AreBounded converters w b (ts ++ t ∷ [])
 bounded_on converters w b [] t are is = (is, tt)
 bounded_on converters w b (u ∷ us) t are is = (are.0, bounded_on converters u.world u.bytes us t are.1 is)
@@ -252,16 +251,13 @@ module _ (converters : Converters) (entry start : World) (calm : start.doubt ≡
       (old now new : Medium) → Elapses now new
       → (going : Going converters entry start turns memory doubt old now)
       → Stepped converters e reply memory memory' doubt now new
-      → IsBounded converters (last_of start (worlds_of turns)) e
-      (writes_none (last_of start (worlds_of turns)) e reply) (is_refusal reply.answer)
-      (bytes_after going.begun turns) (bytes_now new)
+      → IsBounded converters (last_of start (worlds_of turns)) e (Some reply) (bytes_after going.begun turns)
+      (bytes_now new)
   bounded_here turns e reply memory memory' doubt old now new time going s =
-      subst (λ (w : World). IsBounded converters w e (writes_none w e reply) (is_refusal reply.answer)
-      (bytes_after going.begun turns) (bytes_now new))
+      subst (λ (w : World). IsBounded converters w e (Some reply) (bytes_after going.begun turns) (bytes_now new))
       (sym going.last)
-      (subst (λ (b : DiskBytes). IsBounded converters (world_of now.image memory doubt) e
-      (writes_none (world_of now.image memory doubt) e reply) (is_refusal reply.answer) b (bytes_now new)) going.held
-      (record {
+      (subst (λ (b : DiskBytes). IsBounded converters (world_of now.image memory doubt) e (Some reply) b (bytes_now new))
+      going.held (record {
         elsewhere = s.aside.elsewhere;
         place = s.place;
         unwritten = λ none. same_bytes now new (s.unwritten none);
