@@ -33,7 +33,7 @@ use Rattle.run_model.specs.Steps.{passes_refusals}
 use Rattle.run_model.specs.Steps.{root_opened, uses_device}
 use Rattle.run_model.specs.Turns.{IsBlamed, bytes_now}
 use Rattle.run_model.specs.Worlds.{Application, Disks, Doubt, World, app_of, disk_at, disks, is_to_open, update_in}
-use Rattle.run_model.specs.Worlds.{with_app, world_at}
+use Rattle.run_model.specs.Worlds.{with_app, world_at, application_at}
 use Rattle.run_model.specs.Writes.{IsCallWithin, IsCommandWithin, OnlyOpens, OpensAtMost}
 use Rattle.per_runtime.specs.storages.Answers.{CallsTo}
 use Rattle.per_runtime.specs.storages.Handled.{StaysInPlace}
@@ -130,7 +130,8 @@ module _ (laws : AppLaws) (converters : Converters) (told : Bool) (tells : IsTru
     (looks : only_plans c ≡ true → is_to_open (stage_in a.stage) ≡ false → IsUnwritten old new)
     (place : is_to_open (stage_in a.stage) ≡ false
     → StaysInPlace a.app c (application old.image a) old.image new.image)
-    (within : IsCallWithin converters a.app now (application old.image a) c (bytes_now old) (bytes_now new)) where
+    (within : IsCallWithin converters (application_at a.app now (application old.image a)) c (bytes_now old)
+    (bytes_now new)) where
   -- the world before, and what is on the disk then
   before : Option Doubt → World
   before doubt = world old.image now apps doubt
@@ -189,9 +190,11 @@ module _ (laws : AppLaws) (converters : Converters) (told : Bool) (tells : IsTru
 
   within_on : (doubt : Option Doubt) → IsCommandWithin converters (before doubt) e (bytes_now old) (bytes_now new)
   unfolding e before
-  within_on doubt = subst (λ (r : Application). IsCallWithin converters n now r c (bytes_now old) (bytes_now new))
+  within_on doubt = subst
+      (λ (r : Application). IsCallWithin converters (application_at n now r) c (bytes_now old) (bytes_now new))
       (sym (it_is doubt))
-      (subst (λ (k : ℕ). IsCallWithin converters k now (application old.image a) c (bytes_now old) (bytes_now new))
+      (subst (λ (k : ℕ). IsCallWithin converters (application_at k now (application old.image a)) c (bytes_now old)
+      (bytes_now new))
       number within)
 
   opened_on : (doubt : Option Doubt) → OpensAtMost a.app (stage_in a.stage) (bytes_now old) (bytes_now new)
@@ -255,7 +258,7 @@ module _ (laws : AppLaws) (converters : Converters) (told : Bool) (tells : IsTru
         v,
         (
           led.0,
-          subst (λ (r : Application). AppStep converters n now r c led.0) (sym (it_is None)) led.1,
+          subst (λ (r : Application). AppStep converters (application_at n now r) c led.0) (sym (it_is None)) led.1,
           refl,
           refl,
         ),
@@ -270,10 +273,11 @@ module _ (laws : AppLaws) (converters : Converters) (told : Bool) (tells : IsTru
   done_calls reply h = subst (λ k. CallsTo k (app_at new.image k) old new) number (h.done tells).calls
 
   done_step : (reply : Reply) (doubt : Option Doubt) → IsCommandAnswered told converters now c a a' old new reply
-      → AppStep converters n now (app_of (before doubt) n) c (reply, application new.image a')
+      → AppStep converters (application_at n now (app_of (before doubt) n)) c (reply, application new.image a')
   done_step reply doubt h = subst (λ (r : Application).
-      AppStep converters n now r c (reply, application new.image a')) (sym (it_is doubt))
-      (subst (λ k. AppStep converters k now (application old.image a) c (reply, application new.image a')) number
+      AppStep converters (application_at n now r) c (reply, application new.image a')) (sym (it_is doubt))
+      (subst (λ k. AppStep converters (application_at k now (application old.image a)) c
+      (reply, application new.image a')) number
       (h.done tells).step)
 
   blamed_on : (reply : Reply) → IsCommandAnswered told converters now c a a' old new reply

@@ -1,5 +1,5 @@
 -- A call of one application: as its row says where its root is in use, and after the opening of one that is to be opened.
-use Rattle.std.specs.Prelude.{◌≡◌, ◌⊎◌, ◌≤◌, ◌+◌, ℕ, List, Bool, true, false, cond, ◌||◌, IsTrue, Some, None, Result}
+use Rattle.std.specs.Prelude.{◌≡◌, ◌⊎◌, ◌≤◌, ◌+◌, ℕ, Bool, true, false, cond, ◌||◌, IsTrue, Some, None, Result}
 use Rattle.std.specs.Prelude.{Ok, Err, IsErrOf, slice_get}
 use Rattle.std.proofs.Common.{refl, sym, ap, ◌∙◌, subst, inl, inr, ⊎_elim, true≢false}
 use Rattle.per_base.specs.Causes.{Rose}
@@ -33,6 +33,7 @@ use Rattle.run_model.specs.Steps.{root_opened, uses_device}
 use Rattle.run_model.specs.Turns.{bytes_now}
 use Rattle.run_model.specs.WriteLaws.{call_behind, call_unbegun, opens_alone, opens_nothing}
 use Rattle.run_model.specs.Worlds.{Application, Stage, Sessions, at_rest, is_to_open, none_open, to_open, update_in}
+use Rattle.run_model.specs.Worlds.{application_at}
 use Rattle.run_model.specs.Writes.{IsCallWithin, NeedsNothing}
 use Rattle.per_runtime.specs.storages.Answers.{CallsTo}
 use Rattle.per_runtime.specs.application.Answers as calls
@@ -51,9 +52,10 @@ not_opened r rests = ap (λ (b : Bool). cond b (record r { disk = reopened r.dis
 
 row_step : (converters : Converters) (app now : ℕ) (c : Call) (before behind : Application)
     (outcome : Outcome) → behind ≡ root_opened before
-    → HasRow converters app now c behind outcome → AppStep converters app now before c outcome
+    → HasRow converters app now c behind outcome → AppStep converters (application_at app now before) c outcome
 row_step converters app now c before behind outcome is row =
-    subst (λ (r : Application). StepBeside converters app now r c (beside_update (update_in r.stage) c) outcome) is
+    subst (λ (r : Application). StepBeside converters (application_at app now r) c
+    (beside_update (update_in r.stage) c) outcome) is
     row
 
 led : (converters : Converters) (app now : ℕ) (c : Call) (before : Application) (next : App)
@@ -203,7 +205,8 @@ whole_calls mend app next old mid new opens time later calls = record {
       (λ was. opens.any_moment quiet clean next (later_before (app_at old.image app) next
       (subst (λ (x : App). IsLater x next) opens.app later)) c was)
       (λ at. λ is_sound damaged image decays. mend app image damaged (app_at old.image app) next
-      ((subst (λ (x : App). StandsCase app x next c) opens.app (calls.any_moment opens.quiet (opens.clean clean) c at))
+      ((subst (λ (x : App). StandsCase app x next c) opens.app
+      (calls.any_moment opens.quiet (opens.clean clean) c at))
       is_sound damaged image decays))
       (cases_on opens.time time c s);
   outside = λ quiet c s. ⊎_elim
@@ -222,7 +225,7 @@ pub opened_alone : (told : Bool) (converters : Converters) (now : ℕ) (c : Call
     (old mid : Medium) → stage_in a.stage ≡ to_open → Spares (IsNoSlot (root_place a.app)) old.image mid.image
     → mid.written ≤ old.written + root_cost (manifests_at old.image a.app)
     → (NeedsNothing old.image a.app → bytes_now mid ≡ bytes_now old)
-    → IsCallWithin converters a.app now (application old.image a) c (bytes_now old) (bytes_now mid)
+    → IsCallWithin converters (application_at a.app now (application old.image a)) c (bytes_now old) (bytes_now mid)
 opened_alone told converters now c a old mid marked slots cost already = call_unbegun converters a.app now
     (application old.image a) c (bytes_now old) (bytes_now mid) marked slots cost already
 
@@ -248,8 +251,10 @@ module _ (mend : RootMendLaw) (told : Bool) (converters : Converters) (now : ℕ
   pub within_behind : running_in b ≡ record { stage = at_rest; sessions = none_open }
       → (IsTrue told → Spares (IsNoSlot (root_place a.app)) old.image mid.image)
       → (IsTrue told → OpensRoot a.app old mid) → (new : Medium)
-      → (IsTrue told → IsCallWithin converters b.app now (application mid.image b) c (bytes_now mid) (bytes_now new))
-      → IsTrue told → IsCallWithin converters a.app now (application old.image a) c (bytes_now old) (bytes_now new)
+      → (IsTrue told → IsCallWithin converters (application_at b.app now (application mid.image b)) c (bytes_now mid)
+      (bytes_now new))
+      → IsTrue told → IsCallWithin converters (application_at a.app now (application old.image a)) c (bytes_now old)
+      (bytes_now new)
   within_behind opened slots opens new within tells =
       let was : Application = as_app (app_at old.image a.app) (record { stage = to_open; sessions = none_open }) in
       let is : Application = as_app (reopened (app_at old.image a.app)) (record {
@@ -260,12 +265,14 @@ module _ (mend : RootMendLaw) (told : Bool) (converters : Converters) (now : ℕ
       ap (λ (r : memory.Running). as_app (app_at mid.image b.app) r) opened
       ∙ ap (λ (x : App). as_app x (record { stage = at_rest; sessions = none_open }))
       (ap (app_at mid.image) same ∙ (opens tells).app) in
-      subst (λ (r : memory.Running). IsCallWithin converters a.app now (as_app (app_at old.image a.app) r) c
+      subst (λ (r : memory.Running). IsCallWithin converters
+      (application_at a.app now (as_app (app_at old.image a.app) r)) c
       (bytes_now old) (bytes_now new)) (sym (closed tells))
       (call_behind converters a.app now was c (bytes_now old) (bytes_now mid) (bytes_now new) refl (slots tells)
       (opens tells).written (opens tells).already (opens tells).manifests
-      (subst (λ (k : ℕ). IsCallWithin converters k now is c (bytes_now mid) (bytes_now new)) same
-      (subst (λ (r : Application). IsCallWithin converters b.app now r c (bytes_now mid) (bytes_now new)) there
+      (subst (λ (k : ℕ). IsCallWithin converters (application_at k now is) c (bytes_now mid) (bytes_now new)) same
+      (subst (λ (r : Application). IsCallWithin converters (application_at b.app now r) c (bytes_now mid)
+      (bytes_now new)) there
       (within tells))))
 
   -- ---- the opening failed
@@ -310,12 +317,15 @@ module _ (mend : RootMendLaw) (told : Bool) (converters : Converters) (now : ℕ
         (ap (app_at mid.image) same ∙ (opens tells).app)
         ∙ sym (ap (λ (r : memory.Running). root_opened (as_app (app_at old.image a.app) r)) (closed tells))
 
-    step_on : IsTrue told → (outcome : Outcome) → AppStep converters b.app now (application mid.image b) c outcome
-        → AppStep converters a.app now (application old.image a) c outcome
-    step_on tells outcome step = subst (λ (k : ℕ). StepBeside converters k now
-        (root_opened (application old.image a)) c (beside_update
+    step_on : IsTrue told → (outcome : Outcome)
+        → AppStep converters (application_at b.app now (application mid.image b)) c outcome
+        → AppStep converters (application_at a.app now (application old.image a)) c outcome
+    step_on tells outcome step = subst
+        (λ (k : ℕ). StepBeside converters (application_at k now (root_opened (application old.image a))) c
+        (beside_update
         (update_in (root_opened (application old.image a)).stage) c) outcome) same
-        (subst (λ (r : Application). StepBeside converters b.app now r c (beside_update (update_in r.stage) c)
+        (subst (λ (r : Application). StepBeside converters (application_at b.app now r) c
+        (beside_update (update_in r.stage) c)
         outcome) (opened_is tells) step)
 
     later_on : (next : App) → IsTrue told → IsLater (app_at mid.image b.app) next

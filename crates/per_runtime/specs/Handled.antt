@@ -1,5 +1,5 @@
 -- A call of one application, whose root is opened first where it is to be opened: what it promises, by how it ends.
-use Rattle.std.specs.Prelude.{◌≡◌, ◌≢◌, ◌⊎◌, ℕ, List, Bool, true, false, IsTrue, Some, Result, Ok, Err}
+use Rattle.std.specs.Prelude.{◌≡◌, ◌≢◌, ◌⊎◌, ℕ, Bool, true, false, IsTrue, Some, Result, Ok, Err}
 use Rattle.std.specs.Prelude.{IsErrOf}
 use Rattle.per_base.specs.Causes.{Rose}
 use Rattle.per_base.specs.declared.errors.PerError.TheVariants as error
@@ -13,7 +13,7 @@ use Rattle.deploy.specs.declared.errors.Stop.TheVariants.{Device, OutOfMemory}
 use Rattle.deploy_laws.specs.Apps.{App, app_at, IsCleanApp}
 use Rattle.deploy_laws.specs.Stands.{IsLater}
 use Rattle.run_model.specs.Converters.{Converters}
-use Rattle.run_model.specs.Worlds.{Application, is_to_open}
+use Rattle.run_model.specs.Worlds.{Application, is_to_open, application_at}
 use Rattle.run_model.specs.Sessions.{Session}
 use Rattle.run_model.specs.Found.{FoundStorage}
 use Rattle.run_model.specs.Calls.{Outcome, session_at}
@@ -36,7 +36,7 @@ IfEnded (Err OutOfMemory) answered failed stopped = stopped
 -- the application is as the step leads to
 pub record IsStepDone (converters : Converters) (app now : ℕ) (c : Call) (before after : Application)
     (reply : Reply) (old new : Medium) : Type 0 where
-  pub step : AppStep converters app now before c (reply, after)
+  pub step : AppStep converters (application_at app now before) c (reply, after)
   pub later : IsLater before.disk after.disk
   pub calls : CallsTo app (app_at new.image app) old new
   pub clean : IsCleanApp app old.image → IsCleanApp app new.image
@@ -44,7 +44,7 @@ pub record IsStepDone (converters : Converters) (app now : ℕ) (c : Call) (befo
 -- what is on the disk after a call that is in progress: what its step leads to, or what was there before
 abbrev pub IsLedTo : Converters → (app now : ℕ) → Call → (before : Application) → App → Type 0
 IsLedTo converters app now c before next = (next ≡ before.disk)
-    ⊎ ((outcome : Outcome) × AppStep converters app now before c outcome × (next ≡ outcome.1.disk))
+    ⊎ ((outcome : Outcome) × AppStep converters (application_at app now before) c outcome × (next ≡ outcome.1.disk))
 
 -- a call ended in the middle: the application is between what it was and `next`, which is what the call leads to or
 -- what it was
@@ -100,7 +100,8 @@ pub record IsHandled (told : Bool) (converters : Converters) (now : ℕ) (c : Ca
       → found_named (application old.image a) c ≡ Some (Ok f)
       → session_at (application old.image a) f.number ≡ Some s → WritesWithin a.app f s old new
   -- no more is written than the call costs, and the opening of a root before it; and no file changes elsewhere
-  pub within : IsTrue told → IsCallWithin converters a.app now (application old.image a) c (bytes_now old)
+  pub within : IsTrue told
+      → IsCallWithin converters (application_at a.app now (application old.image a)) c (bytes_now old)
       (bytes_now new)
   -- no file changes beside those of a storage that the call names
   pub place : IsTrue told → is_to_open (stage_in a.stage) ≡ false

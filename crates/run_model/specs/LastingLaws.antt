@@ -24,7 +24,7 @@ use Rattle.run_model.specs.Converters.{Converters}
 use Rattle.run_model.specs.Found.{FoundStorage, storage_in, shape_in, with_storage_state}
 use Rattle.run_model.specs.Sessions.{Session, keys, files, seen_in, synced_in_session, seen_of, made_durable}
 use Rattle.run_model.specs.Worlds.{Application, Stage, to_open, at_rest, updating, is_to_open, update_in, Sessions}
-use Rattle.run_model.specs.Worlds.{World, app_of}
+use Rattle.run_model.specs.Worlds.{World, app_of, application_at}
 use Rattle.run_model.specs.Lasting.{IsSessionOn, AreSessionsOn, IsStageOn, IsApplication, IsWorld}
 use Rattle.run_model.specs.Later.{set_length}
 use Rattle.run_model.specs.LastingCalls.{Lasts, IsFoundIn, app_so, with_so, root_so, not_to_open, on_ok, any_ok}
@@ -46,11 +46,13 @@ use Rattle.run_model.specs.Steps.{root_opened, Step, FailsElsewhere, FailsAs, de
 abbrev pub AreSeenAgain : ℕ → Application → Type 0
 AreSeenAgain app r = (f : FoundStorage) (s : Session) (v : View) (others : List View)
     → slice_get (active_storages r.disk.says) f.number ≡ Some f.config → f.state ≡ Opens v others
-    → session_at r f.number ≡ Some s → seen_in f.config.kind (view_once_synced (shape_in app f) v (synced_in_session s)
+    → session_at r f.number ≡ Some s
+    → seen_in f.config.kind (view_once_synced (shape_in app f) v (synced_in_session s)
     (seen_of s))
     ≡ seen_of s
 
-on_there : (ss : Sessions) (cs : List StorageData) (states : List State) (n : ℕ) (config : StorageData) (state : State)
+on_there : (ss : Sessions) (cs : List StorageData) (states : List State) (n : ℕ) (config : StorageData)
+    (state : State)
     → AreSessionsOn ss cs states → slice_get cs n ≡ Some config
     → slice_get states n ≡ Some state → IsSessionOn (if_open (slice_get ss n)) config.kind state
 on_there [] cs states zero config state are config_is state_is = tt
@@ -148,7 +150,8 @@ synchronises other = false
 
 call_so : (converters : Converters) (app now : ℕ) (r : Application) (c : Call) (outcome : Outcome)
     → (synchronises c ≡ true → AreSeenAgain app r) → IsApplication r
-    → (goes_beside c ≡ false → r.stage ≡ at_rest) → CallStep converters app now r c outcome → Lasts outcome
+    → (goes_beside c ≡ false → r.stage ≡ at_rest) → CallStep converters (application_at app now r) c outcome
+    → Lasts outcome
 unfolding app_step
 call_so converters app now r call.Status outcome again is rests step =
     subst Lasts (sym step) (lasts_on r (status_step r r.disk.says) is (status_row r r.disk.says is))
@@ -174,7 +177,8 @@ call_so converters app now r call.UpdateCommit outcome again is rests step =
 call_so converters app now r call.UpdateAbort outcome again is rests step =
     subst Lasts (sym step) (lasts_on r (abort_step r) is (abort_row r is))
 call_so converters app now r (call.OpenKvs n) outcome again is rests step =
-    subst Lasts (sym step) (lasts_on r (open_step app r n kinds.Keys) is (open_row app r n kinds.Keys is (rests refl)))
+    subst Lasts (sym step)
+    (lasts_on r (open_step app r n kinds.Keys) is (open_row app r n kinds.Keys is (rests refl)))
 call_so converters app now r (call.OpenFiles n) outcome again is rests step =
     subst Lasts (sym step) (lasts_on r (open_step app r n kinds.Files) is
     (open_row app r n kinds.Files is (rests refl)))
@@ -208,11 +212,12 @@ pub answer_lasts : (converters : Converters) (w w' : World) (app : ℕ) (c : Cal
     → (synchronises c ≡ true → AreSeenAgain app (root_opened (app_of w app)))
     → IsWorld w → Step converters w (event.App app c) reply w' → IsWorld w'
 answer_lasts converters w w' app c reply again world step =
-    with_so w w' app step.0.1 _ world (by (beside_update (update_in (root_opened (app_of w app)).stage) c) refl step.1)
+    with_so w w' app step.0.1 _ world
+    (by (beside_update (update_in (root_opened (app_of w app)).stage) c) refl step.1)
     step.3
   where
     by : (e : Option PerError) → beside_update (update_in (root_opened (app_of w app)).stage) c ≡ e
-        → StepBeside converters app w.now (root_opened (app_of w app)) c e step.0 → Lasts step.0
+        → StepBeside converters (application_at app w.now (root_opened (app_of w app))) c e step.0 → Lasts step.0
     by (Some e) goes_on refused = subst Lasts (sym refused) (root_so (app_of w app) (app_so w app world))
     by None goes_on done = call_so converters app w.now (root_opened (app_of w app)) c step.0 again
         (root_so (app_of w app) (app_so w app world))
@@ -274,5 +279,6 @@ named_failure_lasts converters w w' app c reply name f named found fails read wo
         n)) named
         ∙ ap (λ (row : Result FoundStorage PerError). after_failure (app_at fails.2.left app)
         (root_opened (app_of w app)) (Some row)) found)))
-        (ends_so (root_opened (app_of w app)) f (app_at fails.2.left app) (root_so (app_of w app) (app_so w app world))
+        (ends_so (root_opened (app_of w app)) f (app_at fails.2.left app)
+        (root_so (app_of w app) (app_so w app world))
         is_found read)

@@ -13,7 +13,7 @@ use Rattle.run_model.specs.Converters.{Converters}
 use Rattle.run_model.specs.Found.{FoundStorage, storage_in}
 use Rattle.run_model.specs.Sessions.{Session}
 use Rattle.run_model.specs.Worlds.{Application, World, Stage, to_open, at_rest, updating, is_to_open, update_in}
-use Rattle.run_model.specs.Worlds.{or_idle, app_of, with_app}
+use Rattle.run_model.specs.Worlds.{or_idle, app_of, with_app, application_at}
 use Rattle.run_model.specs.Runtimes.{Running, with_disk}
 use Rattle.run_model.specs.Calls.{Outcome, if_open, session_at, beside_update}
 use Rattle.run_model.specs.Steps.{Step, StepsTo, FailsElsewhere, FailsAs, AppStep, doubt_after, calls_device}
@@ -27,7 +27,8 @@ get_set [] n x less = absurd (omega (arith, less))
 get_set (y ∷ ys) zero x less = refl
 get_set (y ∷ ys) (suc n) x less = get_set ys n x (omega (arith, less))
 
-get_set_other : {A : Type 0} → (xs : List A) (n k : ℕ) (x : A) → k ≢ n → slice_get (slice_set xs n x) k ≡ slice_get xs k
+get_set_other : {A : Type 0} → (xs : List A) (n k : ℕ) (x : A) → k ≢ n → slice_get (slice_set xs n x) k
+    ≡ slice_get xs k
 get_set_other [] n k x differs = refl
 get_set_other (y ∷ ys) zero zero x differs = absurd (differs refl)
 get_set_other (y ∷ ys) zero (suc k) x differs = refl
@@ -63,7 +64,8 @@ one_app disk disk' first zero (s ∷ rs) r same =
     (same_disks disk disk' (first + 1) rs (λ b le. same b (λ e. omega (arith, le, e))))
 one_app disk disk' first (suc app) (s ∷ rs) r same =
     let there : (first + 1) + app ≡ first + suc app = omega arith in
-    ap (λ (d : App). as_app d s ∷ with_disk disk' (first + 1) (slice_set rs app r)) (same first (λ e. omega (arith, e)))
+    ap (λ (d : App). as_app d s ∷ with_disk disk' (first + 1) (slice_set rs app r))
+    (same first (λ e. omega (arith, e)))
     ∙ ap (λ (xs : List Application). as_app (disk first) s ∷ xs)
     (one_app disk disk' (first + 1) app rs r (λ b differs. same b (λ e. differs (e ∙ sym there)))
     ∙ ap (λ (n : ℕ). slice_set (with_disk disk (first + 1) rs) app (as_app (disk' n) r)) there)
@@ -89,8 +91,8 @@ answers_alike converters v w v' app c reply in_v in_w same now step =
       w',
       (
         outcome,
-        subst (λ (r : Application). AppStep converters app w.now r c outcome) same
-            (subst (λ (n : ℕ). AppStep converters app n (app_of v app) c outcome) now step.1),
+        subst (λ (r : Application). AppStep converters (application_at app w.now r) c outcome) same
+            (subst (λ (n : ℕ). AppStep converters (application_at app n (app_of v app)) c outcome) now step.1),
         step.2,
         refl,
       ),

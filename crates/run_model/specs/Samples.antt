@@ -44,7 +44,7 @@ use Rattle.deploy_rows.specs.Recovering.{recovering, resetting}
 use Rattle.run_model.specs.Converters.{Converters}
 use Rattle.run_model.specs.Sessions.{on_keys, on_working}
 use Rattle.run_model.specs.Worlds.{Application, World, world_at, update_in, disks, no_app, resting, app_of, with_app}
-use Rattle.run_model.specs.Worlds.{formatted, after_run, after_start}
+use Rattle.run_model.specs.Worlds.{formatted, after_run, after_start, application_at}
 use Rattle.run_model.specs.Calls.{Outcome, answered, concluded, app_step, with_update, with_update_begun, open_step}
 use Rattle.run_model.specs.Calls.{durable}
 use Rattle.run_model.specs.Calls.{beside_update, CallStep, StepBeside}
@@ -65,7 +65,8 @@ given_beside app now r p c (Some e) = answered (answer.Error e) r
 given_beside app now r p c None = given_step app now r p c
 
 abbrev pub outcome_of : (app now : ℕ) → Application → InProgress → Call → Outcome
-outcome_of app now r p c = given_beside app now (root_opened r) p c (beside_update (update_in (root_opened r).stage) c)
+outcome_of app now r p c = given_beside app now (root_opened r) p c
+    (beside_update (update_in (root_opened r).stage) c)
 
 abbrev pub after_outcome : World → (app : ℕ) → Call → Outcome → World
 after_outcome w app c outcome = record (with_app w app outcome.1) {
@@ -106,14 +107,14 @@ begins_update other = false
 
 call_is : (converters : Converters) (app now : ℕ) (r : Application) (p : InProgress) (c : Call)
     → begins_update c ≡ false
-    → CallStep converters app now r c (given_step app now r p c)
+    → CallStep converters (application_at app now r) c (given_step app now r p c)
 call_is converters app now r p (call.Update text) calm = absurd (true≢false calm)
 call_is converters app now r p (call.UpdateBegin text) calm = absurd (true≢false calm)
 call_is converters app now r p other calm = refl
 
 beside_is : (converters : Converters) (app now : ℕ) (r : Application) (p : InProgress) (c : Call)
     (e : Option PerError) → begins_update c ≡ false
-    → StepBeside converters app now r c e (given_beside app now r p c e)
+    → StepBeside converters (application_at app now r) c e (given_beside app now r p c e)
 beside_is converters app now r p c (Some e) calm = refl
 beside_is converters app now r p c None calm = call_is converters app now r p c calm
 
@@ -139,7 +140,8 @@ with_installed w app now d = with_app w app (resting (installed_app 1 now d))
 
 -- all that is to be computed
 unfoldable pub computed : ℕ
-unfolding digits chars is_utf8 decoded kind_at counted_at kinds_by list_kind_by group_kind_by trees_by committed reports
+unfolding digits chars is_utf8 decoded kind_at counted_at kinds_by list_kind_by group_kind_by trees_by committed
+    reports
     fresh_state mended_view storage_shape installing installed_app finishing rolling_back wiping offered updated_app
     recovering resetting on_keys on_working app_step open_step durable
 computed = 0
@@ -210,7 +212,8 @@ second_run : replies (after_start (after_run (world_after at_first
 unfolding computed
 second_run = refl
 
-second_run_unsynced : replies (after_start (after_run (world_after at_first (on (call.OpenKvs fav) ∷ set_home 9 ∷ []))))
+second_run_unsynced : replies
+    (after_start (after_run (world_after at_first (on (call.OpenKvs fav) ∷ set_home 9 ∷ []))))
     (on (call.OpenKvs fav) ∷ on (call.Get fav home) ∷ [])
     ≡ codes "ok\nvalue u16:513\n"
 unfolding computed
@@ -274,7 +277,14 @@ in_copies content lacking = with_app formatted 0 (resting
         generation = 2;
         lacking = [];
         sole = true;
-        entries = record { name = home; info = None; changed = 2; len = 3; content = content; lacking = lacking } ∷ [];
+        entries = record {
+          name = home;
+          info = None;
+          changed = 2;
+          len = 3;
+          content = content;
+          lacking = lacking;
+        } ∷ [];
       }) [] ∷ [];
     }))
 
@@ -342,7 +352,8 @@ a_map = with_installed formatted 0 0 (record {
 abbrev pub opening : OpenKind → ℕ → Event
 opening k bits = on (call.OpenFile cal map_file k (record { 0 = bits }))
 
-busy_handles : replies a_map (on (call.OpenFiles cal) ∷ opening kind.Read 0 ∷ opening kind.Read 0 ∷ opening kind.Write 0
+busy_handles : replies a_map
+    (on (call.OpenFiles cal) ∷ opening kind.Read 0 ∷ opening kind.Read 0 ∷ opening kind.Write 0
     ∷ on (call.CloseFile cal 1) ∷ on (call.CloseFile cal 2) ∷ opening kind.Write 0
     ∷ opening kind.Read 0 ∷ on (call.Close cal) ∷ [])
     ≡ codes
@@ -377,7 +388,8 @@ whole_files = refl
 
 restoring_files : replies a_map (event.Now 50 ∷ on (call.OpenFiles cal) ∷ on (call.Put cal map_file (0 ∷ []))
     ∷ on (call.ResetFile cal map_file) ∷ opening kind.Read 2 ∷ on (call.HandleSize cal 1)
-    ∷ on (call.Seek cal 1 3) ∷ on (call.ReadAll cal 1) ∷ on (call.CloseFile cal 1) ∷ on (call.RecoverFile cal map_file)
+    ∷ on (call.Seek cal 1 3) ∷ on (call.ReadAll cal 1) ∷ on (call.CloseFile cal 1) ∷ on
+    (call.RecoverFile cal map_file)
     ∷ on (call.Info cal map_file) ∷ on (call.Delete cal map_file)
     ∷ on (call.FileExists cal map_file) ∷ on (call.Close cal) ∷ on (call.ResetStorage cal) ∷ on (call.OpenFiles cal)
     ∷ on (call.Info cal map_file) ∷ [])
@@ -452,7 +464,8 @@ opening_syncs : calls_device (app_of (failing at_nine (call.Sync fav) nothing_re
 unfolding computed
 opening_syncs = refl
 
-status_in_doubt : replies (failing at_nine (call.Sync fav) nothing_read) (on call.Status ∷ event.App 1 call.Status ∷ [])
+status_in_doubt : replies (failing at_nine (call.Sync fav) nothing_read)
+    (on call.Status ∷ event.App 1 call.Status ∷ [])
     ≡ codes "status version 1\nstatus absent\n"
 unfolding computed
 status_in_doubt = refl

@@ -18,7 +18,7 @@ use Rattle.run_model.specs.Samples.{at_first, at_nine, computed, fav, home, in_c
 use Rattle.run_model.specs.SamplesDamage.{found_so, in_three}
 use Rattle.run_model.specs.SamplesManifests.{cut_text, favourites_text, manifests_read, second_text}
 use Rattle.run_model.specs.Turns.{DiskBytes}
-use Rattle.run_model.specs.Worlds.{Application, World, app_of, at_rest, to_open}
+use Rattle.run_model.specs.Worlds.{Application, World, app_of, at_rest, to_open, application_at}
 use Rattle.run_model.specs.Writes.{AllNeedNothing, CostsCall, IsBesideCall, IsRootAlone, OpensAtMost}
 
 -- what a call of application 0 costs in this world, whose root keeps these manifests
@@ -52,7 +52,8 @@ a_rollback w = refl
 
 -- written twice, it is out of the bound
 finished_once : (converters : Converters) (w : World) (before : ℕ)
-    → ¬ (CostsCall converters 0 0 both (app_of w 0) call.Finish before (before + 2 * (3 * (8 + 339 + 88))))
+    → ¬ (CostsCall converters (application_at 0 0 (app_of w 0)) both call.Finish before
+    (before + 2 * (3 * (8 + 339 + 88))))
 unfolding manifests_read
 finished_once converters w before within = absurd (omega (arith, within))
 
@@ -79,7 +80,7 @@ a_small_install = refl
 
 -- with its root written twice, it is out of the bound
 installed_once : (converters : Converters) (w : World) (before : ℕ)
-    → ¬ (CostsCall converters 0 0 [] (app_of w 0) (call.Install favourites_text) before
+    → ¬ (CostsCall converters (application_at 0 0 (app_of w 0)) [] (call.Install favourites_text) before
     (before + (one_key + 2 * first_root)))
 installed_once converters w before within =
     let bounded : before + (one_key + 2 * first_root) ≤ before + (one_key + first_root) =

@@ -18,7 +18,8 @@ use Rattle.run_model.specs.Found.{FoundStorage, storage_in}
 use Rattle.run_model.specs.Calls.{Outcome, StepBeside, without_session, unless_open, local_on, least_open}
 use Rattle.run_model.specs.Calls.{beside_update, app_step}
 use Rattle.run_model.specs.Worlds.{Application, none_open, to_open, at_rest, is_to_open, update_in, Disks, Doubt, World}
-use Rattle.run_model.specs.Worlds.{world_at, after_run, disks, app_of, with_app, without_doubt}
+use Rattle.run_model.specs.Worlds.{world_at, after_run, disks, app_of, with_app, without_doubt, ApplicationAt}
+use Rattle.run_model.specs.Worlds.{application_at, application_in}
 
 -- ---- the step of an application whose device does not fail
 
@@ -26,11 +27,15 @@ use Rattle.run_model.specs.Worlds.{world_at, after_run, disks, app_of, with_app,
 abbrev pub root_opened : Application → Application
 root_opened r = cond (is_to_open r.stage) (record r { disk = reopened r.disk; stage = at_rest }) r
 
--- A call of application `app` at the moment now may have this outcome, a reply and the application after it, where no
--- device fails: its root is opened first where it is to be, and beside an update in progress most calls are refused.
-abbrev pub AppStep : Converters → (app now : ℕ) → Application → Call → Outcome → Type 0
-AppStep converters app now r c outcome = StepBeside converters app now (root_opened r) c
-    (beside_update (update_in (root_opened r).stage) c) outcome
+-- the same of one at a moment
+abbrev pub with_root_opened : ApplicationAt → ApplicationAt
+with_root_opened at = application_at at.app at.now (root_opened at.application)
+
+-- A call of an application may have this outcome, a reply and the application after it, where no device fails: its root
+-- is opened first where it is to be, and beside an update in progress most calls are refused.
+abbrev pub AppStep : Converters → ApplicationAt → Call → Outcome → Type 0
+AppStep converters at c outcome = StepBeside converters (with_root_opened at) c
+    (beside_update (update_in (root_opened at.application).stage) c) outcome
 
 -- ---- which commands call the device
 
@@ -58,7 +63,7 @@ abbrev pub Step : Converters → World → Event → Reply → World → Type 0
 Step converters w (event.Now t) reply w' = (reply ≡ record { reports = []; answer = answer.Done })
     × (w' ≡ record w { now = t })
 Step converters w (event.App app c) reply w' = (outcome : Outcome)
-    × AppStep converters app w.now (app_of w app) c outcome × (reply ≡ outcome.0)
+    × AppStep converters (application_in w app) c outcome × (reply ≡ outcome.0)
     × (w' ≡ record (with_app w app outcome.1) { doubt = doubt_after (calls_device (app_of w app) c) w.doubt })
 
 -- ---- a device that fails

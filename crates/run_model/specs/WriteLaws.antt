@@ -20,7 +20,7 @@ use Rattle.run_model.specs.Costs.{call_cost, named_cost, opening_cost, update_co
 use Rattle.run_model.specs.Found.{FoundStorage}
 use Rattle.run_model.specs.Steps.{device_storage, found_named}
 use Rattle.run_model.specs.Turns.{DiskBytes}
-use Rattle.run_model.specs.Worlds.{Application, Sessions, Stage, World, app_of, at_rest, to_open}
+use Rattle.run_model.specs.Worlds.{Application, Sessions, Stage, World, app_of, at_rest, to_open, application_at}
 use Rattle.run_model.specs.Writes.{AreRootsAlone, CostsCall, IsBesideCall, IsBesidePlaces, IsCallWithin}
 use Rattle.run_model.specs.Writes.{IsCommandWithin, NeedsNothing, OpensAtMost}
 
@@ -56,12 +56,13 @@ all_alone image generation text alone app lt = record {
 module _ (converters : Converters) (now : ℕ) (r : Application) where
   -- where nothing is written
   pub costs_nothing : (app : ℕ) (kept : List (List ℕ)) (c : Call) (before after : ℕ) → after ≤ before
-      → CostsCall converters app now kept r c before after
+      → CostsCall converters (application_at app now r) kept c before after
   costs_nothing app kept (call.Update text) before after le = inl le
   costs_nothing app kept other before after le = allowed before after (call_cost app now kept r other) le
 
   costs_raised : (app : ℕ) (kept : List (List ℕ)) (c : Call) (before before' after : ℕ) → before ≤ before'
-      → CostsCall converters app now kept r c before after → CostsCall converters app now kept r c before' after
+      → CostsCall converters (application_at app now r) kept c before after
+      → CostsCall converters (application_at app now r) kept c before' after
   costs_raised app kept (call.Update text) before before' after more (inl le) = inl (le_trans le more)
   costs_raised app kept (call.Update text) before before' after more (inr of) =
       inr (of.0, of.1, raised before before' after (update_cost kept text of.0) more of.2)
@@ -71,7 +72,7 @@ module _ (converters : Converters) (now : ℕ) (r : Application) where
   -- of a call that names a storage it is the cost of that
   pub costs_named : (app : ℕ) (kept : List (List ℕ)) (c : Call) (name : List ℕ) → device_storage c ≡ Some name
       → (before after : ℕ) → after ≤ before + named_cost app now r c (found_named r c)
-      → CostsCall converters app now kept r c before after
+      → CostsCall converters (application_at app now r) kept c before after
   costs_named app kept (call.Install text) name some before after le = absurd cc
   costs_named app kept (call.Update text) name some before after le = absurd cc
   costs_named app kept call.UpdateNext name some before after le = absurd cc
@@ -99,8 +100,8 @@ module _ (converters : Converters) (now : ℕ) (r : Application) where
 -- what a call keeps to whose root is open, it keeps to where its root is to be opened
 pub call_opened : (converters : Converters) (app now : ℕ) (r : Application) (c : Call)
     (old new : DiskBytes)
-    → CostsCall converters app now (manifests_at old.image app) r c old.written new.written
-    → Spares (IsBesideCall app r c) old.image new.image → IsCallWithin converters app now r c old new
+    → CostsCall converters (application_at app now r) (manifests_at old.image app) c old.written new.written
+    → Spares (IsBesideCall app r c) old.image new.image → IsCallWithin converters (application_at app now r) c old new
 call_opened converters app now r c old new costs files = record {
   costs = costs_raised converters now r app (manifests_at old.image app) c old.written
       (old.written + opening_cost (manifests_at old.image app) r.stage) new.written (omega arith) costs;
@@ -111,7 +112,7 @@ call_opened converters app now r c old new costs files = record {
 -- where the image is the same, and no more is written
 pub call_unwritten : (converters : Converters) (app now : ℕ) (r : Application) (c : Call)
     (old new : DiskBytes) → new.image ≡ old.image → new.written ≡ old.written
-    → IsCallWithin converters app now r c old new
+    → IsCallWithin converters (application_at app now r) c old new
 call_unwritten converters app now r c old new image written = call_opened converters app now r c old new
     (costs_nothing converters now r app (manifests_at old.image app) c old.written new.written
     (omega (arith, written)))
@@ -124,7 +125,7 @@ pub call_named : (converters : Converters) (app now : ℕ) (r : Application) (c 
     → ((f : FoundStorage) → found_named r c ≡ Some (Ok f)
     → Spares (IsBeside app f.bank f.number) old.image new.image)
     → ((e : PerError) → found_named r c ≡ Some (Err e) → new.image ≡ old.image)
-    → IsCallWithin converters app now r c old new
+    → IsCallWithin converters (application_at app now r) c old new
 call_named converters app now r c name old new some cost place missing =
     call_opened converters app now r c old new
     (costs_named converters now r app (manifests_at old.image app) c name some old.written new.written cost)
@@ -148,8 +149,9 @@ module _ (a : App) (sessions : Sessions) where
   opened = record { disk = reopened a; stage = at_rest; sessions = sessions }
 
   costs_marked : (converters : Converters) (app now : ℕ) (kept : List (List ℕ)) (c : Call)
-      (before before' after : ℕ) → before ≤ before' → CostsCall converters app now kept opened c before after
-      → CostsCall converters app now kept marked c before' after
+      (before before' after : ℕ) → before ≤ before'
+      → CostsCall converters (application_at app now opened) kept c before after
+      → CostsCall converters (application_at app now marked) kept c before' after
   unfolding offered
   costs_marked converters app now kept (call.Update text) before before' after more (inl le) = inl (le_trans le more)
   costs_marked converters app now kept (call.Update text) before before' after more (inr of) =
@@ -157,7 +159,8 @@ module _ (a : App) (sessions : Sessions) where
   costs_marked converters app now kept other before before' after more le =
       raised before before' after (call_cost app now kept marked other) more le
 
-  beside_marked : (app : ℕ) (c : Call) (file : ℕ) → IsBesidePlaces app marked c file → IsBesidePlaces app opened c file
+  beside_marked : (app : ℕ) (c : Call) (file : ℕ) → IsBesidePlaces app marked c file
+      → IsBesidePlaces app opened c file
   beside_marked app (call.Install text) file beside = beside
   beside_marked app (call.Update text) file beside = beside
   beside_marked app call.UpdateNext file beside = beside
@@ -168,10 +171,11 @@ module _ (a : App) (sessions : Sessions) where
       → Spares (IsNoSlot (root_place app)) old.image mid.image
       → mid.written ≤ old.written + root_cost (manifests_at old.image app)
       → (NeedsNothing old.image app → mid ≡ old)
-      → CostsCall converters app now (manifests_at old.image app) opened c (mid.written + 0) new.written
+      → CostsCall converters (application_at app now opened) (manifests_at old.image app) c (mid.written + 0)
+      new.written
       → ((file : ℕ) → IsNoSlot (root_place app) file × IsBesidePlaces app opened c file
       → new.image file ≡ mid.image file)
-      → IsCallWithin converters app now marked c old new
+      → IsCallWithin converters (application_at app now marked) c old new
   call_marked converters app now c old mid new slots cost already costs files = record {
     costs = costs_marked converters app now (manifests_at old.image app) c (mid.written + 0)
         (old.written + root_cost (manifests_at old.image app)) new.written (omega (arith, cost)) costs;
@@ -189,24 +193,28 @@ module _ (converters : Converters) (app now : ℕ) (r : Application) (c : Call) 
   abbrev r' : Application
   r' = record r { disk = reopened r.disk; stage = at_rest }
 
-  behind : CostsCall converters app now (manifests_at old.image app) r' c (mid.written + 0) new.written
+  behind : CostsCall converters (application_at app now r') (manifests_at old.image app) c (mid.written + 0)
+      new.written
       → ((file : ℕ) → IsNoSlot (root_place app) file × IsBesidePlaces app r' c file → new.image file ≡ mid.image file)
-      → IsCallWithin converters app now r c old new
-  behind costs files = subst (λ (s : Stage). IsCallWithin converters app now (record r { stage = s }) c old new)
+      → IsCallWithin converters (application_at app now r) c old new
+  behind costs files = subst
+      (λ (s : Stage). IsCallWithin converters (application_at app now (record r { stage = s })) c old new)
       (sym marked_is) (call_marked r.disk r.sessions converters app now c old mid new slots cost already costs
       files)
 
   -- A call over an opened root, and before it the opening, which changed slots of the root alone.
   pub call_behind : manifests_at mid.image app ≡ manifests_at old.image app
-      → IsCallWithin converters app now r' c mid new → IsCallWithin converters app now r c old new
+      → IsCallWithin converters (application_at app now r') c mid new
+      → IsCallWithin converters (application_at app now r) c old new
   call_behind kept within = behind (subst (λ (manifests : List (List ℕ)).
-      CostsCall converters app now manifests r' c (mid.written + 0) new.written) kept within.costs) within.files
+      CostsCall converters (application_at app now r') manifests c (mid.written + 0) new.written) kept within.costs)
+      within.files
 
 -- and the opening alone, where the call did nothing
 pub call_unbegun : (converters : Converters) (app now : ℕ) (r : Application) (c : Call)
     (old new : DiskBytes) → r.stage ≡ to_open → Spares (IsNoSlot (root_place app)) old.image new.image
     → new.written ≤ old.written + root_cost (manifests_at old.image app) → (NeedsNothing old.image app → new ≡ old)
-    → IsCallWithin converters app now r c old new
+    → IsCallWithin converters (application_at app now r) c old new
 call_unbegun converters app now r c old new marked_is slots cost already =
     behind converters app now r c old new new marked_is slots cost already
     (costs_nothing converters now (record r { disk = reopened r.disk; stage = at_rest }) app

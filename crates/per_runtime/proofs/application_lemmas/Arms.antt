@@ -1,6 +1,6 @@
 -- The arms of a call: one that is refused beside an update, the status, the abort, and those that come to an
 -- application at rest.
-use Rattle.std.proofs.Common.{◌≡◌, ◌≢◌, ◌∙◌, ℕ, List, Bool, true, false, cond, Option, Some, None}
+use Rattle.std.proofs.Common.{◌≡◌, ◌≢◌, ◌∙◌, ℕ, Bool, true, false, cond, Option, Some, None}
 use Rattle.std.proofs.Common.{Ok, refl, sym, ap, subst, true≢false}
 use Rattle.per_base.specs.declared.errors.Holder.TheVariants as holder
 use Rattle.per_base.specs.declared.errors.PerError.{PerError}
@@ -22,7 +22,7 @@ use Rattle.run_model.specs.Calls.{StepBeside, app_step, beside_update, goes_besi
 use Rattle.run_model.specs.Calls.{concluded}
 use Rattle.run_model.specs.Calls.{status_step}
 use Rattle.run_model.specs.Converters.{Converters}
-use Rattle.run_model.specs.Worlds.{Application}
+use Rattle.run_model.specs.Worlds.{Application, application_at}
 use Rattle.run_model.specs.Worlds as worlds
 use Rattle.per_runtime.specs.declared.application.running.Running.{Running}
 use Rattle.per_runtime.specs.declared.application.running.Stage.{Stage}
@@ -51,14 +51,16 @@ busy_plain (Some p) c e refused = busy_by (goes_beside c) (error.ResourceBusy (h
 module _ (told : Bool) (converters : Converters) (now : ℕ) (c : Call) (s : Running) (m : Medium)
     (lawful : IsLawful told m) (untouched : UntouchedAppLaw) (Untouched : Type 0) (same : Untouched)
     (is : IsRunning told m.image s) where
-  pub busy_promises : (e : PerError) → beside_update (worlds.update_in (stage_in s.stage)) c ≡ Some e → (reply : Reply)
+  pub busy_promises : (e : PerError) → beside_update (worlds.update_in (stage_in s.stage)) c ≡ Some e
+      → (reply : Reply)
       → reply ≡ reply_with (answer.Error e)
       → Promises told converters now c s s Untouched m m (Ok reply)
   busy_promises e refused reply is_reply = subst (λ (x : Reply).
       Promises told converters now c s s Untouched m m (Ok x)) (sym is_reply)
       (idle_promises told converters now c s m lawful untouched Untouched same is s.stage
       (reply_with (answer.Error e)) is
-      (λ tells. subst (λ (x : Option PerError). StepBeside converters s.app now (application m.image s) c x
+      (λ tells. subst (λ (x : Option PerError). StepBeside converters
+      (application_at s.app now (application m.image s)) c x
       (reply_with (answer.Error e), application m.image s)) (sym refused) refl)
       (busy_plain (worlds.update_in (stage_in s.stage)) c e refused).sound
       (busy_plain (worlds.update_in (stage_in s.stage)) c e refused).text)
@@ -91,7 +93,7 @@ module _ (told : Bool) (converters : Converters) (now : ℕ) (s : Running) (m : 
     (in_use : RootInUseLaw) where
   status_has : (r : Application) → HasRow converters s.app now call.Status r (says_status r.disk.says, r)
   unfolding app_step
-  status_has r = subst (λ (x : Option PerError). StepBeside converters s.app now r call.Status x
+  status_has r = subst (λ (x : Option PerError). StepBeside converters (application_at s.app now r) call.Status x
       (says_status r.disk.says, r)) (sym (beside_goes (worlds.update_in r.stage) call.Status refl))
       (status_row r r.disk.says)
 
@@ -154,7 +156,8 @@ free_by worlds.to_open c opened alone free = absurd (true≢false opened)
 free_by worlds.at_rest c opened alone free = refl
 free_by (worlds.updating p) c opened alone free = absurd
     (let e : Some (error.ResourceBusy (holder.Update p.deployment.version)) ≡ None
-    = ap (λ (b : Bool). cond b None (Some (error.ResourceBusy (holder.Update p.deployment.version)))) (sym alone) ∙ free
+    = ap (λ (b : Bool). cond b None (Some (error.ResourceBusy (holder.Update p.deployment.version)))) (sym alone) ∙
+    free
     in cc)
 
 -- a call that does not go beside an update comes to an application at rest

@@ -22,7 +22,7 @@ use Rattle.deploy_rows.specs.Rows.{BeginsWith, Offer, offered, rolling_back, wip
 use Rattle.run_model.specs.Calls.{StepBeside, active_storages, app_step, beside_update, concluded, done_with}
 use Rattle.run_model.specs.Calls.{first_open, least_open}
 use Rattle.run_model.specs.Converters.{Converters}
-use Rattle.run_model.specs.Worlds.{Application}
+use Rattle.run_model.specs.Worlds.{Application, application_at}
 use Rattle.run_model.specs.Worlds as worlds
 use Rattle.per_runtime.specs.storages.Needs.{CallNeedsMemory}
 use Rattle.per_runtime.specs.storages.Slots.{IsResting, resting_with, sessions_in}
@@ -43,7 +43,8 @@ plain_some : (x e : PerError) → IsPlain x → Some x ≡ Some e → IsPlain e
 plain_some x e is same = let one : x ≡ e = cc in subst IsPlain one is
 
 pub update_plain : (says : Says) (e : PerError) → no_update_over says ≡ Some e → IsPlain e
-update_plain nothing e is = plain_some (error.IntegrityCorrupted unit.Root) e (record { sound = λ x. cc; text = refl })
+update_plain nothing e is = plain_some (error.IntegrityCorrupted unit.Root) e
+    (record { sound = λ x. cc; text = refl })
     is
 update_plain (absent g) e is = plain_some error.NotInstalled e (record { sound = λ x. cc; text = refl }) is
 update_plain (installed g active None) e is = absurd cc
@@ -51,7 +52,8 @@ update_plain (installed g active (Some previous)) e is = plain_some
     (error.UpdateNotFinished previous.deployment.version) e (record { sound = λ x. cc; text = refl }) is
 
 pub back_plain : (says : Says) (e : PerError) → no_way_back says ≡ Some e → IsPlain e
-back_plain nothing e is = plain_some (error.IntegrityCorrupted unit.Root) e (record { sound = λ x. cc; text = refl }) is
+back_plain nothing e is = plain_some (error.IntegrityCorrupted unit.Root) e (record { sound = λ x. cc; text = refl })
+    is
 back_plain (absent g) e is = plain_some error.NotInstalled e (record { sound = λ x. cc; text = refl }) is
 back_plain (installed g active None) e is = plain_some error.NoPreviousVersion e
     (record { sound = λ x. cc; text = refl }) is
@@ -86,9 +88,10 @@ module _ (converters : Converters) (app now : ℕ) (r : Application) (rests : r.
   beside_none : (c : Call) → beside_update (worlds.update_in r.stage) c ≡ None
   beside_none c = ap (λ (s : worlds.Stage). beside_update (worlds.update_in s) c) rests
 
-  as_row : (c : Call) → StepBeside converters app now r c None (reply_of (Some e), r)
+  as_row : (c : Call) → StepBeside converters (application_at app now r) c None (reply_of (Some e), r)
       → HasRow converters app now c r (reply_of (Some e), r)
-  as_row c step = subst (λ (x : Option PerError). StepBeside converters app now r c x (reply_of (Some e), r))
+  as_row c step = subst
+      (λ (x : Option PerError). StepBeside converters (application_at app now r) c x (reply_of (Some e), r))
       (sym (beside_none c)) step
 
   pub back_row : no_way_back r.disk.says ≡ Some e → HasRow converters app now call.Rollback r (reply_of (Some e), r)
@@ -143,7 +146,8 @@ or_unnamed name (inr none) = inr (unnamed name none)
 
 back_by : (r : Application) (name : List ℕ) (says : Says) (lacking : List ℕ) (states : List State)
     → no_way_back says ≡ None
-    → NeedsMemory (done_with r (rolling_back (Some name) (record { says = says; lacking = lacking; states = states })))
+    → NeedsMemory (done_with r
+    (rolling_back (Some name) (record { says = says; lacking = lacking; states = states })))
 unfolding rolling_back
 back_by r name nothing lacking states none = absurd cc
 back_by r name (absent g) lacking states none = absurd cc
@@ -196,7 +200,8 @@ module _ (told : Bool) (s taken : Running) (root : Root) (m : Medium) (now : ℕ
     least_some : IsTrue told → IsSome (least_open r)
     least_some tells = subst (λ (says : Says). IsSome (first_open (sessions_in s.slots) (active_storages says)))
         (says_same tells)
-        (subst (λ (x : Running). IsSome (first_open (sessions_in x.slots) (active_storages (root_says root)))) taken_is
+        (subst (λ (x : Running). IsSome (first_open (sessions_in x.slots) (active_storages (root_says root))))
+        taken_is
         some)
 
     pub wipe_starves : IsTrue told → MayStarve s.app now call.Wipe (application m.image s)
@@ -210,7 +215,8 @@ module _ (told : Bool) (s taken : Running) (root : Root) (m : Medium) (now : ℕ
         → MayStarve s.app now call.Rollback (application m.image s)
     back_starves given root_is given_is none tells = in_memory call.Rollback (record {
       free = refl;
-      needs = inl (back_wants s.app now r (least_some tells) (root_goes no_way_back given root_is given_is none tells));
+      needs = inl (back_wants s.app now r (least_some tells)
+          (root_goes no_way_back given root_is given_is none tells));
     })
 
   pub update_starves : (text : List ℕ) (given : Option PerError) → root ≡ stage_root s.stage

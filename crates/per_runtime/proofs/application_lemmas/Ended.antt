@@ -33,7 +33,7 @@ use Rattle.run_model.specs.Steps.{after_failure, device_storage, found_named}
 use Rattle.run_model.specs.Turns.{bytes_now}
 use Rattle.run_model.specs.WriteLaws.{call_unwritten}
 use Rattle.run_model.specs.Writes.{IsCallWithin}
-use Rattle.run_model.specs.Worlds.{Application}
+use Rattle.run_model.specs.Worlds.{Application, application_at}
 use Rattle.run_model.specs.Worlds as worlds
 use Rattle.per_runtime.specs.declared.storages.slots.OpenSlots.{OpenSlots}
 use Rattle.per_runtime.specs.storages.Slots.{AreOpenOn, IsResting, resting_with, sessions_in}
@@ -76,7 +76,8 @@ pub failed_app : (image : Image) (b after : Running) (r : Application) → after
 failed_app image b after r app stage none =
     ap (λ (n : ℕ). record { disk = app_at image n; stage = stage_in after.stage; sessions = sessions_in after.slots })
     app
-    ∙ (ap (λ (s : Stage). record { disk = app_at image b.app; stage = stage_in s; sessions = sessions_in after.slots })
+    ∙ (ap (λ (s : Stage). record
+    { disk = app_at image b.app; stage = stage_in s; sessions = sessions_in after.slots })
     stage
     ∙ ap (λ (ss : worlds.Sessions). record { disk = app_at image b.app; stage = worlds.to_open; sessions = ss })
     (closed after.slots none))
@@ -107,7 +108,8 @@ module _ (told : Bool) (converters : Converters) (now : ℕ) (c : Call) (b : Run
     (unwritten : Untouched → IsUnwritten old new) (resting : IsResting told old.image b.app root b.slots)
     (in_use : RootInUseLaw) (row : App → Result App PerError) (Due : PerError → Type 0)
     (word : IsWord told converters b.app now c (resting_with old.image b.app b.slots) row Due)
-    (within : IsTrue told → IsCallWithin converters b.app now (resting_with old.image b.app b.slots) c (bytes_now old)
+    (within : IsTrue told
+    → IsCallWithin converters (application_at b.app now (resting_with old.image b.app b.slots)) c (bytes_now old)
     (bytes_now new)) where
   abbrev before : Running
   before = record b { stage = AtRest root }
@@ -181,7 +183,8 @@ module _ (told : Bool) (converters : Converters) (now : ℕ) (c : Call) (b : Run
       time = m.time;
     }
 
-  module _ (after' : Running) (app : after'.app ≡ b.app) (stage : after'.stage ≡ ToOpen) (none : NoneOpen after'.slots)
+  module _ (after' : Running) (app : after'.app ≡ b.app) (stage : after'.stage ≡ ToOpen)
+      (none : NoneOpen after'.slots)
     where
       device_promises : Made told row Due b.app root Untouched old new (Err stop.Device)
           → Promises told converters now c before after' Untouched old new (Err stop.Device)
@@ -258,7 +261,8 @@ module _ (told : Bool) (converters : Converters) (now : ℕ) (c : Call) (b : Run
 
   pub rowed_promises : (made : Result Outcome Stop) → Made told row Due b.app root Untouched old new made
       → IfOk made (λ o. o.refused ≡ None → AreOpenOn told new.image b.app (root_says o.root) b.slots)
-      → (after' : Running) (result : Result Reply Stop) → ConcludesCall made (record b { stage = ToOpen }) after' result
+      → (after' : Running) (result : Result Reply Stop)
+      → ConcludesCall made (record b { stage = ToOpen }) after' result
       → Promises told converters now c before after' Untouched old new result
   rowed_promises (Ok o) m kept after' result s = subst (λ (x : Running).
       Promises told converters now c before x Untouched old new result) (sym s.0)
@@ -272,7 +276,8 @@ module _ (told : Bool) (converters : Converters) (now : ℕ) (c : Call) (b : Run
 
 pub resting_in : (told : Bool) (image : Image) (s : Running) (root : Root) → IsRunning told image s
     → stage_in s.stage ≡ worlds.at_rest → root ≡ stage_root s.stage → IsResting told image s.app root s.slots
-resting_in told image s root is rest root_is = subst (λ (x : Root). IsResting told image s.app x s.slots) (sym root_is)
+resting_in told image s root is rest root_is = subst (λ (x : Root). IsResting told image s.app x s.slots)
+    (sym root_is)
     (subst (λ (st : Stage). IsStageAt told image s.app s.slots st) (sym (rests s.stage rest)) is.stage_at)
 
 -- the root was taken out of it
@@ -288,7 +293,8 @@ module _ (told : Bool) (converters : Converters) (now : ℕ) (c : Call) (s taken
     (taken_is : taken ≡ record s { stage = ToOpen }) (in_use : RootInUseLaw) (row : App → Result App PerError)
     (Due : PerError → Type 0) where
   pub word_promises : IsWord told converters s.app now c (resting_with old.image s.app s.slots) row Due
-      → (IsTrue told → IsCallWithin converters s.app now (resting_with old.image s.app s.slots) c (bytes_now old)
+      → (IsTrue told → IsCallWithin converters (application_at s.app now (resting_with old.image s.app s.slots)) c
+      (bytes_now old)
       (bytes_now new))
       → (made : Result Outcome Stop) → Made told row Due s.app root Untouched old new made
       → IfOk made (λ o. o.refused ≡ None → AreOpenOn told new.image s.app (root_says o.root) s.slots)
@@ -414,7 +420,8 @@ busy_least told image app root slots in_use resting busy busy_is tells = busy_is
     (sym (ap (λ (a : App). a.says) (in_use image app root resting.root_at.memory (resting.root_at.disk tells))))
 
 -- memory ran out
-pub starved : (result : Result Reply Stop) → IsErrAnd result (λ e. e ≡ stop.OutOfMemory) → result ≡ Err stop.OutOfMemory
+pub starved : (result : Result Reply Stop) → IsErrAnd result (λ e. e ≡ stop.OutOfMemory) → result
+    ≡ Err stop.OutOfMemory
 starved (Ok reply) is = absurd is
 starved (Err e) is = ap (λ (x : Stop). Err x) is
 

@@ -25,7 +25,7 @@ use Rattle.run_model.specs.Converters.{Converters}
 use Rattle.run_model.specs.Found.{FoundStorage, storage_in, with_storage_state}
 use Rattle.run_model.specs.Laws.{StorageLaterLaw}
 use Rattle.run_model.specs.Sessions.{Session, files, in_session, keys, made_durable}
-use Rattle.run_model.specs.Worlds.{Application, update_in}
+use Rattle.run_model.specs.Worlds.{Application, update_in, application_at}
 use Rattle.per_runtime.specs.application.Answers.{HasRow}
 
 pub still : (a : App) → IsLater a a
@@ -35,7 +35,8 @@ still a = same_root refl refl
 abbrev pub OnFrom : Application → Result Outcome PerError → Type 0
 OnFrom r row = IfOk row (λ o. IsLater r.disk o.1.disk)
 
-chain : {A B : Type 0} (P : B → Type 0) (row : Result A PerError) (f : A → Result B PerError) → ((x : A) → IfOk (f x) P)
+chain : {A B : Type 0} (P : B → Type 0) (row : Result A PerError) (f : A → Result B PerError)
+    → ((x : A) → IfOk (f x) P)
     → IfOk (row >>= f) P
 chain P (Ok x) f each = each x
 chain P (Err e) f each = tt
@@ -50,7 +51,8 @@ unless : {A : Type 0} (P : A → Type 0) (test : Bool) (e : PerError) (rest : Re
 unless P true e rest on = tt
 unless P false e rest on = on
 
-pub settled : (r : Application) (row : Result Outcome PerError) → OnFrom r row → IsLater r.disk (concluded r row).1.disk
+pub settled : (r : Application) (row : Result Outcome PerError) → OnFrom r row
+    → IsLater r.disk (concluded r row).1.disk
 settled r (Ok o) on = on
 settled r (Err e) on = still r.disk
 
@@ -182,7 +184,7 @@ module _ (storage : StorageLaterLaw) where
         (settled r (begins.0 >>= after) (chain (λ (x : Outcome). IsLater r.disk x.1.disk) begins.0 after each))
 
     call_on : (converters : Converters) (app now : ℕ) (r : Application) (c : Call) (o : Outcome)
-        → CallStep converters app now r c o → IsLater r.disk o.1.disk
+        → CallStep converters (application_at app now r) c o → IsLater r.disk o.1.disk
     call_on converters app now r (call.Update text) o step =
         begins_on converters now r text (with_update r) o (λ p. update p r.disk) step
     call_on converters app now r (call.UpdateBegin text) o step =
@@ -191,7 +193,7 @@ module _ (storage : StorageLaterLaw) where
         (settled r (app_step app r now other) (step_on app r now other))
 
     beside_on : (converters : Converters) (app now : ℕ) (r : Application) (c : Call)
-        (refused : Option PerError) (o : Outcome) → StepBeside converters app now r c refused o
+        (refused : Option PerError) (o : Outcome) → StepBeside converters (application_at app now r) c refused o
         → IsLater r.disk o.1.disk
     beside_on converters app now r c (Some e) o step =
         subst (λ (x : Outcome). IsLater r.disk x.1.disk) (sym step) (still r.disk)

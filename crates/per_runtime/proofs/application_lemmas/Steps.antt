@@ -41,7 +41,7 @@ use Rattle.run_model.specs.Converters.{Converters}
 use Rattle.run_model.specs.Runtimes.{is_durable, is_refusal, only_plans}
 use Rattle.run_model.specs.Steps.{after_failure, device_storage, reaches_device, uses_device}
 use Rattle.run_model.specs.Turns.{bytes_now}
-use Rattle.run_model.specs.Worlds.{Application}
+use Rattle.run_model.specs.Worlds.{Application, application_at}
 use Rattle.run_model.specs.Worlds as worlds
 use Rattle.run_model.specs.Writes.{IsCallWithin}
 use Rattle.per_runtime.specs.storages.Answers.{CallsTo}
@@ -117,7 +117,8 @@ pub update_back : (b : Running) (s : Staged) → b.stage ≡ Updating s → reco
 update_back b s is = ap (λ (x : Stage). record b { stage = x }) (sym is)
 
 -- a version is installed over which no other one is
-installed_by : (now : ℕ) (text : List ℕ) (says : Says) (lacking : List ℕ) (states : List State) (g : ℕ) (active : Named)
+installed_by : (now : ℕ) (text : List ℕ) (says : Says) (lacking : List ℕ) (states : List State) (g : ℕ)
+    (active : Named)
     (previous : Option Named) → says ≡ installed g active previous
     → installing now text (record { says = says; lacking = lacking; states = states }) ≡ Err error.AlreadyInstalled
 unfolding installing
@@ -139,7 +140,8 @@ without_sound says = (without_plain says).sound
 pub without_text : (says : Says) → HasText (reply_of (Some (without_update says))).answer
 without_text says = (without_plain says).text
 
-pub same_if_none : {b after' : Running} (taken : Option Staged) → taken ≡ None → IfNone taken (after' ≡ b) → after' ≡ b
+pub same_if_none : {b after' : Running} (taken : Option Staged) → taken ≡ None → IfNone taken (after' ≡ b) → after'
+    ≡ b
 same_if_none {b} {after'} taken none same = subst (λ (x : Option Staged). IfNone x (after' ≡ b)) none same
 
 pub without_same : (b after' : Running) → after' ≡ b → reply_of
@@ -195,7 +197,8 @@ commit_refused r none = without_row (λ p. Ok (answered answer.Done
 
 pub abort_refused : (r : Application) → worlds.update_in r.stage ≡ None
     → (reply_of (Some (without_update r.disk.says)), r) ≡ concluded r (abort_step r)
-abort_refused r none = without_row (λ p. Ok (answered answer.Done (record r { stage = worlds.at_rest }))) r r.disk.says
+abort_refused r none = without_row (λ p. Ok (answered answer.Done (record r { stage = worlds.at_rest }))) r
+    r.disk.says
     ∙ ap (λ (p : Option InProgress). concluded r (calls.progress_in r.disk.says p >>= λ q.
     Ok (answered answer.Done (record r { stage = worlds.at_rest })))) (sym none)
 
@@ -211,20 +214,24 @@ module _ (converters : Converters) (app now : ℕ) (r : Application) (rests : r.
     pub next_refused_row : HasRow converters app now call.UpdateNext r
         (reply_of (Some (without_update r.disk.says)), r)
     unfolding app_step
-    next_refused_row = subst (λ (x : Option PerError). StepBeside converters app now r call.UpdateNext x
-        (reply_of (Some (without_update r.disk.says)), r)) (sym (beside_none call.UpdateNext)) (next_refused r none_in)
+    next_refused_row = subst
+        (λ (x : Option PerError). StepBeside converters (application_at app now r) call.UpdateNext x
+        (reply_of (Some (without_update r.disk.says)), r)) (sym (beside_none call.UpdateNext))
+        (next_refused r none_in)
 
     pub commit_refused_row : HasRow converters app now call.UpdateCommit r
         (reply_of (Some (without_update r.disk.says)), r)
     unfolding app_step
-    commit_refused_row = subst (λ (x : Option PerError). StepBeside converters app now r call.UpdateCommit x
+    commit_refused_row = subst
+        (λ (x : Option PerError). StepBeside converters (application_at app now r) call.UpdateCommit x
         (reply_of (Some (without_update r.disk.says)), r)) (sym (beside_none call.UpdateCommit))
         (commit_refused r none_in)
 
     pub abort_refused_row : HasRow converters app now call.UpdateAbort r
         (reply_of (Some (without_update r.disk.says)), r)
     unfolding app_step
-    abort_refused_row = subst (λ (x : Option PerError). StepBeside converters app now r call.UpdateAbort x
+    abort_refused_row = subst
+        (λ (x : Option PerError). StepBeside converters (application_at app now r) call.UpdateAbort x
         (reply_of (Some (without_update r.disk.says)), r)) (sym (beside_none call.UpdateAbort))
         (abort_refused r none_in)
 
@@ -265,7 +272,8 @@ module _ (told : Bool) (converters : Converters) (now : ℕ) (b : Running) (s : 
 
   -- ---- one more storage
 
-  next_row : IsTrue told → (o : calls.Outcome) → o ≡ answered (answer.Number (remaining (one_more (staged_progress s))))
+  next_row : IsTrue told → (o : calls.Outcome) → o
+      ≡ answered (answer.Number (remaining (one_more (staged_progress s))))
       (record r { stage = worlds.updating (one_more (staged_progress s)) })
       → HasRow converters b.app now call.UpdateNext r o
   unfolding app_step
@@ -279,7 +287,8 @@ module _ (told : Bool) (converters : Converters) (now : ℕ) (b : Running) (s : 
       (record r { disk = updated_app (staged_progress s) r.disk; stage = worlds.at_rest })
       → HasRow converters b.app now call.UpdateCommit r o
   unfolding app_step
-  commit_row tells o is_o = is_o ∙ sym (ap (λ (row : Result calls.Outcome PerError). concluded r row) (commit_is tells))
+  commit_row tells o is_o = is_o ∙ sym
+      (ap (λ (row : Result calls.Outcome PerError). concluded r row) (commit_is tells))
 
   commit_reaches : IsTrue told → IsTrue (reaches_device b.app r now call.UpdateCommit)
   unfolding app_step
@@ -309,64 +318,65 @@ module _ (told : Bool) (converters : Converters) (now : ℕ) (b : Running) (s : 
       (reaches : IsTrue told → IsTrue (reaches_device b.app r now c)) (no_storage : device_storage c ≡ None)
       (not_durable : is_durable c ≡ false) (no_plan : only_plans c ≡ false) (uses : uses_device r.disk c ≡ true)
       (free : beside_update (worlds.update_in r.stage) c ≡ None) (time : Elapses old new)
-      (within : IsTrue told → IsCallWithin converters b.app now r c (bytes_now old) (bytes_now new)) where
-    pub failed_step : (e : Stop) → (e ≡ stop.Device → Rose old.faults new.faults)
-        → (e ≡ stop.OutOfMemory → new.faults ≡ old.faults)
-        → Promises told converters now c before after' Untouched old new (Err e)
-    failed_step stop.Device cause fed = record {
-      app = app;
-      memory = λ fed. marked_running told new.image b after' below app stage same_slots;
-      answered = λ tells. tt;
-      failed = λ tells bad. record {
-        reaches = reaches tells;
-        next = next;
-        leads = leads tells;
-        later = later tells;
-        is_after = failed_app new.image b after' r app stage same_slots
-            ∙ ap (λ f. after_failure (app_at new.image b.app) r f) (sym (none_found r c no_storage));
-        calls = calls tells;
-      };
-      stopped = λ tells bad. absurd cc;
-      quiet = λ quiet. tt;
-      idle = λ tells calm. absurd (true≢false (sym uses ∙ calm));
-      unwritten = tt;
-      looks = λ plans. absurd (true≢false (sym plans ∙ no_plan));
-      written = λ tells durable. absurd (true≢false (sym durable ∙ not_durable));
-      within = within;
-      place = λ tells. names_none b.app c r no_storage old.image new.image;
-      cause = λ bad. cause refl;
-      fed = λ bad. absurd cc;
-      passes = tt;
-      unfailed = tt;
-      text = tt;
-      time = time;
-    }
-    failed_step stop.OutOfMemory cause fed = record {
-      app = app;
-      memory = λ fed. absurd (fed refl);
-      answered = λ tells. tt;
-      failed = λ tells bad. absurd cc;
-      stopped = λ tells bad. record {
-        needs = record { free = free; needs = inl (inl (reaches tells)) };
-        next = next;
-        leads = leads tells;
-        later = later tells;
-        calls = calls tells;
-      };
-      quiet = λ quiet. tt;
-      idle = λ tells calm. absurd (true≢false (sym uses ∙ calm));
-      unwritten = tt;
-      looks = λ plans. absurd (true≢false (sym plans ∙ no_plan));
-      written = λ tells durable. absurd (true≢false (sym durable ∙ not_durable));
-      within = within;
-      place = λ tells. names_none b.app c r no_storage old.image new.image;
-      cause = λ bad. absurd cc;
-      fed = λ bad. fed refl;
-      passes = tt;
-      unfailed = tt;
-      text = tt;
-      time = time;
-    }
+      (within : IsTrue told → IsCallWithin converters (application_at b.app now r) c (bytes_now old) (bytes_now new))
+    where
+      pub failed_step : (e : Stop) → (e ≡ stop.Device → Rose old.faults new.faults)
+          → (e ≡ stop.OutOfMemory → new.faults ≡ old.faults)
+          → Promises told converters now c before after' Untouched old new (Err e)
+      failed_step stop.Device cause fed = record {
+        app = app;
+        memory = λ fed. marked_running told new.image b after' below app stage same_slots;
+        answered = λ tells. tt;
+        failed = λ tells bad. record {
+          reaches = reaches tells;
+          next = next;
+          leads = leads tells;
+          later = later tells;
+          is_after = failed_app new.image b after' r app stage same_slots
+              ∙ ap (λ f. after_failure (app_at new.image b.app) r f) (sym (none_found r c no_storage));
+          calls = calls tells;
+        };
+        stopped = λ tells bad. absurd cc;
+        quiet = λ quiet. tt;
+        idle = λ tells calm. absurd (true≢false (sym uses ∙ calm));
+        unwritten = tt;
+        looks = λ plans. absurd (true≢false (sym plans ∙ no_plan));
+        written = λ tells durable. absurd (true≢false (sym durable ∙ not_durable));
+        within = within;
+        place = λ tells. names_none b.app c r no_storage old.image new.image;
+        cause = λ bad. cause refl;
+        fed = λ bad. absurd cc;
+        passes = tt;
+        unfailed = tt;
+        text = tt;
+        time = time;
+      }
+      failed_step stop.OutOfMemory cause fed = record {
+        app = app;
+        memory = λ fed. absurd (fed refl);
+        answered = λ tells. tt;
+        failed = λ tells bad. absurd cc;
+        stopped = λ tells bad. record {
+          needs = record { free = free; needs = inl (inl (reaches tells)) };
+          next = next;
+          leads = leads tells;
+          later = later tells;
+          calls = calls tells;
+        };
+        quiet = λ quiet. tt;
+        idle = λ tells calm. absurd (true≢false (sym uses ∙ calm));
+        unwritten = tt;
+        looks = λ plans. absurd (true≢false (sym plans ∙ no_plan));
+        written = λ tells durable. absurd (true≢false (sym durable ∙ not_durable));
+        within = within;
+        place = λ tells. names_none b.app c r no_storage old.image new.image;
+        cause = λ bad. absurd cc;
+        fed = λ bad. fed refl;
+        passes = tt;
+        unfailed = tt;
+        text = tt;
+        time = time;
+      }
 
   -- one that ended well: its reply is no refusal
   module _ (c : Call) (stage : Stage) (reply : Reply) (row : IsTrue told
@@ -387,28 +397,29 @@ module _ (told : Bool) (converters : Converters) (now : ℕ) (b : Running) (s : 
       (text : HasText reply.answer)
       (not_durable : is_durable c ≡ false) (no_plan : only_plans c ≡ false) (no_storage : device_storage c ≡ None)
       (uses : uses_device r.disk c ≡ true) (passes : new.faults ≡ old.faults) (time : Elapses old new)
-      (within : IsTrue told → IsCallWithin converters b.app now r c (bytes_now old) (bytes_now new)) where
-    pub done_step : Promises told converters now c before (record b { stage = stage }) Untouched old new (Ok reply)
-    done_step = record {
-      app = refl;
-      memory = λ fed. record { below = below; stage_at = is_after };
-      answered = λ tells. record { row = row tells; later = later tells; calls = calls tells; clean = clean tells };
-      failed = λ tells bad. absurd cc;
-      stopped = λ tells bad. absurd cc;
-      quiet = quiet;
-      idle = λ tells calm. absurd (true≢false (sym uses ∙ calm));
-      unwritten = λ refused. absurd (true≢false (sym refused ∙ done));
-      looks = λ plans. absurd (true≢false (sym plans ∙ no_plan));
-      written = λ tells durable. absurd (true≢false (sym durable ∙ not_durable));
-      within = within;
-      place = λ tells. names_none b.app c r no_storage old.image new.image;
-      cause = λ bad. absurd cc;
-      fed = λ bad. absurd cc;
-      passes = passes;
-      unfailed = sound;
-      text = text;
-      time = time;
-    }
+      (within : IsTrue told → IsCallWithin converters (application_at b.app now r) c (bytes_now old) (bytes_now new))
+    where
+      pub done_step : Promises told converters now c before (record b { stage = stage }) Untouched old new (Ok reply)
+      done_step = record {
+        app = refl;
+        memory = λ fed. record { below = below; stage_at = is_after };
+        answered = λ tells. record { row = row tells; later = later tells; calls = calls tells; clean = clean tells };
+        failed = λ tells bad. absurd cc;
+        stopped = λ tells bad. absurd cc;
+        quiet = quiet;
+        idle = λ tells calm. absurd (true≢false (sym uses ∙ calm));
+        unwritten = λ refused. absurd (true≢false (sym refused ∙ done));
+        looks = λ plans. absurd (true≢false (sym plans ∙ no_plan));
+        written = λ tells durable. absurd (true≢false (sym durable ∙ not_durable));
+        within = within;
+        place = λ tells. names_none b.app c r no_storage old.image new.image;
+        cause = λ bad. absurd cc;
+        fed = λ bad. absurd cc;
+        passes = passes;
+        unfailed = sound;
+        text = text;
+        time = time;
+      }
 
   -- ---- one more storage
 
@@ -419,19 +430,23 @@ module _ (told : Bool) (converters : Converters) (now : ℕ) (b : Running) (s : 
   pub next_written : new.written ≤ old.written
       + making_costs (take 1 (drop (staged_progress s).built (staged_progress s).deployment.storages))
       (drop (staged_progress s).built (staged_progress s).contents)
-      → Leaves told (making.IsInNone (take 1 (drop (staged_progress s).built (shapes_in b.app (offered_in s))))) old new
-      → IsTrue told → IsCallWithin converters b.app now r call.UpdateNext (bytes_now old) (bytes_now new)
+      → Leaves told (making.IsInNone (take 1 (drop (staged_progress s).built (shapes_in b.app (offered_in s))))) old
+      new
+      → IsTrue told → IsCallWithin converters (application_at b.app now r) call.UpdateNext (bytes_now old)
+      (bytes_now new)
   next_written cost leaves tells = next_within told converters b.app now r old new tells s refl (says_here tells) cost
       leaves
 
   pub next_failed : (e : Stop) (after' : Running) → after' ≡ record b { stage = ToOpen }
       → (e ≡ stop.Device → Rose old.faults new.faults) → (e ≡ stop.OutOfMemory → new.faults ≡ old.faults)
       → (IsTrue told → CallsTo b.app r.disk old new) → Elapses old new
-      → (IsTrue told → IsCallWithin converters b.app now r call.UpdateNext (bytes_now old) (bytes_now new))
+      → (IsTrue told → IsCallWithin converters (application_at b.app now r) call.UpdateNext (bytes_now old)
+      (bytes_now new))
       → Promises told converters now call.UpdateNext before after' Untouched old new (Err e)
   next_failed e after' is_after cause fed calls time within = failed_step call.UpdateNext after'
       (ap (λ (x : Running). x.app) is_after) (ap (λ (x : Running). x.stage) is_after)
-      (subst (λ (x : Running). NoneOpen x.slots) (sym is_after) none) r.disk (λ tells. inl refl) (λ tells. still r.disk)
+      (subst (λ (x : Running). NoneOpen x.slots) (sym is_after) none) r.disk (λ tells. inl refl)
+      (λ tells. still r.disk)
       calls next_reaches refl refl refl refl refl time within e cause fed
 
   pub next_done : (t : Staged) (count : ℕ) → staged_progress t ≡ one_more (staged_progress s)
@@ -439,7 +454,8 @@ module _ (told : Bool) (converters : Converters) (now : ℕ) (b : Running) (s : 
       → (IsTrue told → app_at new.image b.app ≡ r.disk)
       → (IsTrue told → CallsTo b.app r.disk old new) → (IsTrue told → IsCleanApp b.app old.image
       → IsCleanApp b.app new.image) → (Quiet old → Quiet new) → new.faults ≡ old.faults → Elapses old new
-      → (IsTrue told → IsCallWithin converters b.app now r call.UpdateNext (bytes_now old) (bytes_now new))
+      → (IsTrue told → IsCallWithin converters (application_at b.app now r) call.UpdateNext (bytes_now old)
+      (bytes_now new))
       → Promises told converters now call.UpdateNext before (record b { stage = Updating t }) Untouched old new
       (Ok (reply_with (answer.Number count)))
   next_done t count progress counts at same calls clean quiet passes time within =
@@ -476,7 +492,8 @@ module _ (told : Bool) (converters : Converters) (now : ℕ) (b : Running) (s : 
       + root_cost (staged_text s ∷ root_texts (staged_root s)))
       → Leaves told (making.IsBesideMade b.app (drop (staged_progress s).built (shapes_in b.app (offered_in s)))) old
       new
-      → IsTrue told → IsCallWithin converters b.app now r call.UpdateCommit (bytes_now old) (bytes_now new)
+      → IsTrue told → IsCallWithin converters (application_at b.app now r) call.UpdateCommit (bytes_now old)
+      (bytes_now new)
   commit_written keeps cost leaves tells = commit_within told converters b.app now r old new tells s refl
       (says_here tells) (keeps tells) cost leaves
 
@@ -487,7 +504,8 @@ module _ (told : Bool) (converters : Converters) (now : ℕ) (b : Running) (s : 
     pub commit_failed : (e : Stop) (after' : Running) → after' ≡ record b { stage = ToOpen }
         → (e ≡ stop.Device → Rose old.faults new.faults) → (e ≡ stop.OutOfMemory → new.faults ≡ old.faults)
         → (IsTrue told → CallsTo b.app next old new) → Elapses old new
-        → (IsTrue told → IsCallWithin converters b.app now r call.UpdateCommit (bytes_now old) (bytes_now new))
+        → (IsTrue told → IsCallWithin converters (application_at b.app now r) call.UpdateCommit (bytes_now old)
+        (bytes_now new))
         → Promises told converters now call.UpdateCommit before after' Untouched old new (Err e)
     commit_failed e after' is_after cause fed calls time within = failed_step call.UpdateCommit after'
         (ap (λ (x : Running). x.app) is_after) (ap (λ (x : Running). x.stage) is_after)
@@ -504,7 +522,8 @@ module _ (told : Bool) (converters : Converters) (now : ℕ) (b : Running) (s : 
         → (IsTrue told → CallsTo b.app next old new)
         → (IsTrue told → IsCleanApp b.app old.image → IsCleanApp b.app new.image) → (Quiet old → Quiet new)
         → new.faults ≡ old.faults → Elapses old new
-        → (IsTrue told → IsCallWithin converters b.app now r call.UpdateCommit (bytes_now old) (bytes_now new))
+        → (IsTrue told → IsCallWithin converters (application_at b.app now r) call.UpdateCommit (bytes_now old)
+        (bytes_now new))
         → Promises told converters now call.UpdateCommit before (record b { stage = AtRest root }) Untouched old new
         (Ok (reply_with answer.Done))
     commit_done root at is_next calls clean quiet passes time within =
@@ -518,7 +537,8 @@ module _ (told : Bool) (converters : Converters) (now : ℕ) (b : Running) (s : 
           root_at = at;
           open_on = open_by_none told new.image b.app (root_says root) b.slots none;
         })
-        (λ tells. subst (λ (a : App). IsLater r.disk a) (sym (is_next tells)) (update_later (staged_progress s) r.disk))
+        (λ tells. subst (λ (a : App). IsLater r.disk a) (sym (is_next tells))
+        (update_later (staged_progress s) r.disk))
         (λ tells. subst (λ (a : App). CallsTo b.app a old new) (sym (is_next tells)) (calls tells)) clean quiet refl
         (λ e. cc) tt refl refl refl refl passes time within
 

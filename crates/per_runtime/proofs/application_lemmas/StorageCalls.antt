@@ -16,7 +16,7 @@ use Rattle.run_model.specs.Steps.{device_storage, uses_device}
 use Rattle.run_model.specs.Turns.{bytes_now}
 use Rattle.run_model.specs.WriteLaws.{call_named, call_unwritten}
 use Rattle.run_model.specs.Writes.{IsCallWithin}
-use Rattle.run_model.specs.Worlds.{Application}
+use Rattle.run_model.specs.Worlds.{Application, application_at}
 use Rattle.per_runtime.specs.declared.storages.slots.OpenSlots.{OpenSlots}
 use Rattle.per_runtime.specs.storages.Answers.{is_on_storage}
 use Rattle.per_runtime.specs.storages.Answers as stored
@@ -32,7 +32,8 @@ use Rattle.per_runtime.proofs.application_lemmas.LeadOn.{still}
 
 -- a call that names a storage begins no update
 call_step : (converters : Converters) (app now : ℕ) (r : Application) (c : Call) (o : Outcome)
-    → IsTrue (is_on_storage c) → o ≡ concluded r (app_step app r now c) → CallStep converters app now r c o
+    → IsTrue (is_on_storage c) → o ≡ concluded r (app_step app r now c)
+    → CallStep converters (application_at app now r) c o
 call_step converters app now r (call.Update text) o on row = absurd cc
 call_step converters app now r (call.UpdateBegin text) o on row = absurd cc
 call_step converters app now r other o on row = row
@@ -106,7 +107,7 @@ module _ (told : Bool) (converters : Converters) (now : ℕ) (c : Call) (b : Run
   }
 
   within_by : (named : Option (List ℕ)) → device_storage c ≡ named → IsTrue told
-      → IsCallWithin converters b.app now r c (bytes_now old) (bytes_now new)
+      → IsCallWithin converters (application_at b.app now r) c (bytes_now old) (bytes_now new)
   within_by (Some name) is tells = call_named converters b.app now r c name (bytes_now old) (bytes_now new) is
       (s.costs tells) (s.place tells) (s.missing tells)
   within_by None is tells = let same = unwritten (s.idle tells (stays_off (app_at old.image b.app) c on is)) in

@@ -43,7 +43,7 @@ use Rattle.run_model.specs.Costs.{update_cost}
 use Rattle.run_model.specs.Runtimes.{IsUnwritten, is_refusal}
 use Rattle.run_model.specs.Turns.{bytes_now}
 use Rattle.run_model.specs.WriteLaws.{call_opened, call_unwritten}
-use Rattle.run_model.specs.Worlds.{Application}
+use Rattle.run_model.specs.Worlds.{Application, application_at}
 use Rattle.run_model.specs.Worlds as worlds
 use Rattle.run_model.specs.Writes.{CostsUpdate, IsCallWithin, IsInNone, next_bank}
 use Rattle.per_runtime.specs.storages.Answers.{CallsTo}
@@ -71,7 +71,8 @@ offer_by busy text g active (Some previous) o is = absurd cc
 offer_by None text g active None o is = refl
 offer_by (Some name) text g active None o is = absurd cc
 
-offer_says : (busy : Option (List ℕ)) (text : List ℕ) (says : Says) (lacking : List ℕ) (states : List State) (o : Offer)
+offer_says : (busy : Option (List ℕ)) (text : List ℕ) (says : Says) (lacking : List ℕ) (states : List State)
+    (o : Offer)
     → offered busy text (record { says = says; lacking = lacking; states = states }) ≡ Ok o → busy ≡ None
 unfolding offered
 offer_says busy text nothing lacking states o is = absurd cc
@@ -107,7 +108,8 @@ pub record Updates (told : Bool) (converters : Converters) (now : ℕ) (text : L
   pub outside : Leaves told (IsBesideNext app (free_bank root)) old new
   pub places : Leaves told (making.IsBesideMade app (shapes_from app (free_bank root) 0 (storages_said text))) old
       new
-  pub written : making.WritesUpdate told (BeginsUpdate converters.rules converters.answers now busy text) app root text
+  pub written : making.WritesUpdate told (BeginsUpdate converters.rules converters.answers now busy text) app root
+      text
       old new
   pub any_moment : IsTrue told
       → LeadsTo app (rows.UpdateMayLead converters.rules converters.answers now busy text (app_at old.image app))
@@ -169,7 +171,8 @@ module _ (told : Bool) (converters : Converters) (now : ℕ) (text : List ℕ) (
   module _ (keeps : manifests_at old.image b.app ≡ root_texts root) (tells : IsTrue told) where
     costs_by : making.WritesUpdate told (BeginsUpdate converters.rules converters.answers now busy text) b.app root
         text old new
-        → CostsUpdate converters now (manifests_at old.image b.app) r text old.written new.written
+        → CostsUpdate converters (application_at b.app now r) (manifests_at old.image b.app) text old.written
+        new.written
     costs_by (inl none) = inl (omega (arith, none))
     costs_by (inr begun) =
         let p = begun.1 in
@@ -185,7 +188,7 @@ module _ (told : Bool) (converters : Converters) (now : ℕ) (text : List ℕ) (
     within_by : making.WritesUpdate told (BeginsUpdate converters.rules converters.answers now busy text) b.app root
         text old new
         → Leaves told (making.IsBesideMade b.app (shapes_from b.app (free_bank root) 0 (storages_said text))) old new
-        → IsCallWithin converters b.app now r (call.Update text) (bytes_now old) (bytes_now new)
+        → IsCallWithin converters (application_at b.app now r) (call.Update text) (bytes_now old) (bytes_now new)
     within_by cost leaves = call_opened converters b.app now r (call.Update text) (bytes_now old) (bytes_now new)
         (costs_by cost) (λ file beside. leaves.at_the_end tells file (
           beside.0,
@@ -207,7 +210,8 @@ module _ (told : Bool) (converters : Converters) (now : ℕ) (text : List ℕ) (
   updated_leads next (Err e) begins is = inl is
 
   module _ (later : UpdateLaterLaw) where
-    updated_later : (next : App) (row : Result InProgress PerError) → next ≡ after r.disk (rows.updated_row r.disk row)
+    updated_later : (next : App) (row : Result InProgress PerError) → next
+        ≡ after r.disk (rows.updated_row r.disk row)
         → IsLater r.disk next
     updated_later next (Ok p) is = subst (λ (a : App). IsLater r.disk a) (sym is) (later p r.disk)
     updated_later next (Err e) is = subst (λ (a : App). IsLater r.disk a) (sym is) (still r.disk)
@@ -234,7 +238,8 @@ module _ (told : Bool) (converters : Converters) (now : ℕ) (text : List ℕ) (
         ∙ ap (λ (x : PerError). answered (answer.Error x) r) (sym answers)
 
     module _ (o : Outcome) (u : Updates told converters now text b.app root busy old new (Ok o))
-        (within : IsTrue told → IsCallWithin converters b.app now r (call.Update text) (bytes_now old)
+        (within : IsTrue told
+        → IsCallWithin converters (application_at b.app now r) (call.Update text) (bytes_now old)
         (bytes_now new)) where
       taken_free : (refused : Option PerError) (row : Result InProgress PerError) → rows.AnswersRow refused row
           → refused ≡ None → BeginsUpdate converters.rules converters.answers now busy text
@@ -254,7 +259,8 @@ module _ (told : Bool) (converters : Converters) (now : ℕ) (text : List ℕ) (
           (subst (λ (i : Image). AreOpenOn told i b.app (root_says root) b.slots) (sym same.0) resting.open_on)
 
       plain : (refused : Option PerError) → o.refused ≡ refused
-          → ((reply_of refused).answer ≢ answer.Error error.PhysicalStorageFailure) × HasText (reply_of refused).answer
+          → ((reply_of refused).answer ≢ answer.Error error.PhysicalStorageFailure)
+          × HasText (reply_of refused).answer
       plain None is = (λ e. cc, tt)
       plain (Some e) is =
           let p = refused_plain u.updates.row e (begins_plain converters.rules converters.answers now busy text
@@ -314,7 +320,8 @@ module _ (told : Bool) (converters : Converters) (now : ℕ) (text : List ℕ) (
 
     module _ (after' : Running) (app : after'.app ≡ b.app) (stage : after'.stage ≡ ToOpen)
         (none : NoneOpen after'.slots)
-        (within : IsTrue told → IsCallWithin converters b.app now r (call.Update text) (bytes_now old)
+        (within : IsTrue told
+        → IsCallWithin converters (application_at b.app now r) (call.Update text) (bytes_now old)
         (bytes_now new)) where
       calls_next : (e : Stop) (u : Updates told converters now text b.app root busy old new (Err e))
           (tells : IsTrue told) → CallsTo b.app (u.any_moment tells).next old new
@@ -558,7 +565,8 @@ module _ (told : Bool) (converters : Converters) (now : ℕ) (text : List ℕ) (
     time = x.time;
   }
 
-  module _ (after' : Running) (app : after'.app ≡ b.app) (stage : after'.stage ≡ ToOpen) (none : NoneOpen after'.slots)
+  module _ (after' : Running) (app : after'.app ≡ b.app) (stage : after'.stage ≡ ToOpen)
+      (none : NoneOpen after'.slots)
     where
       begin_stopped : no_update_over (root_says root) ≡ None → (e : Stop)
           → Beginning told converters now text b.app root busy old new (Err e)

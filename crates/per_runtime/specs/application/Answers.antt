@@ -1,12 +1,12 @@
 -- What a call of an application promises: all fifty-one.
-use Rattle.std.specs.Prelude.{◌≡◌, ◌⊎◌, ℕ, List, IsTrue}
+use Rattle.std.specs.Prelude.{◌≡◌, ◌⊎◌, ℕ, IsTrue}
 use Rattle.disk_model.specs.Medium.{Medium}
 use Rattle.command_text.specs.declared.calls.Call.{Call}
 use Rattle.command_text.specs.declared.replies.Reply.{Reply}
 use Rattle.deploy_laws.specs.Apps.{App, app_at, IsCleanApp}
 use Rattle.deploy_laws.specs.Stands.{IsLater}
 use Rattle.run_model.specs.Converters.{Converters}
-use Rattle.run_model.specs.Worlds.{Application, update_in}
+use Rattle.run_model.specs.Worlds.{Application, update_in, application_at}
 use Rattle.run_model.specs.Calls.{Outcome, StepBeside, beside_update}
 use Rattle.run_model.specs.Steps.{reaches_device, after_failure, found_named}
 use Rattle.per_runtime.specs.storages.Answers.{CallsTo}
@@ -15,7 +15,7 @@ use Rattle.per_runtime.specs.application.Needs.{MayStarve}
 -- the row of a call of application `app` at the moment `now` in seconds, by these converters and what they may answer:
 -- with an update in progress a call that does not go beside it is refused
 abbrev pub HasRow : Converters → (app now : ℕ) → Call → (before : Application) → Outcome → Type 0
-HasRow converters app now c before outcome = StepBeside converters app now before c
+HasRow converters app now c before outcome = StepBeside converters (application_at app now before) c
     (beside_update (update_in before.stage) c) outcome
 
 -- A call was answered by its row, which leads to a later application; each moment stands between before and after, and

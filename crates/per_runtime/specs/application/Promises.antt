@@ -1,5 +1,5 @@
 -- All that a call of an application promises, however it ends.
-use Rattle.std.specs.Prelude.{◌≡◌, ◌≢◌, ℕ, List, Bool, true, false, IsTrue, Some, Result, Ok, IfOk, OnOk, IsErrOf}
+use Rattle.std.specs.Prelude.{◌≡◌, ◌≢◌, ℕ, Bool, true, false, IsTrue, Some, Result, Ok, IfOk, OnOk, IsErrOf}
 use Rattle.per_base.specs.Causes.{Rose}
 use Rattle.per_base.specs.declared.errors.PerError.TheVariants as error
 use Rattle.disk_model.specs.Medium.{Medium, Quiet, Elapses}
@@ -17,6 +17,7 @@ use Rattle.run_model.specs.Runtimes.{IsUnwritten, WritesWithin, is_durable, is_r
 use Rattle.run_model.specs.Sessions.{Session}
 use Rattle.run_model.specs.Steps.{found_named, uses_device}
 use Rattle.run_model.specs.Turns.{bytes_now}
+use Rattle.run_model.specs.Worlds.{application_at}
 use Rattle.run_model.specs.Writes.{IsCallWithin}
 use Rattle.per_runtime.specs.storages.Handled.{StaysInPlace}
 use Rattle.per_runtime.specs.declared.application.running.Running.{Running}
@@ -43,7 +44,8 @@ pub record Promises (told : Bool) (converters : Converters) (now : ℕ) (c : Cal
       → found_named (application old.image before) c ≡ Some (Ok f)
       → session_at (application old.image before) f.number ≡ Some s → WritesWithin before.app f s old new
   -- no more is written than the call costs, and no file changes elsewhere
-  pub within : IsTrue told → IsCallWithin converters before.app now (application old.image before) c (bytes_now old)
+  pub within : IsTrue told
+      → IsCallWithin converters (application_at before.app now (application old.image before)) c (bytes_now old)
       (bytes_now new)
   -- no file changes beside those of a storage that the call names
   pub place : IsTrue told → StaysInPlace before.app c (application old.image before) old.image new.image

@@ -8,6 +8,7 @@ use Rattle.command_text.specs.declared.calls.Call.TheVariants as call
 use Rattle.per_runtime.specs.declared.application.running.Running.{Running}
 use Rattle.run_model.specs.Converters.{converters_of}
 use Rattle.run_model.specs.Turns.{bytes_now}
+use Rattle.run_model.specs.Worlds.{application_at}
 use Rattle.run_model.specs.Writes.{IsCallWithin}
 use Rattle.per_runtime.specs.storages.Slots.{resting_with}
 use Rattle.per_runtime.proofs.application_lemmas.Ended.{clean_less, resting_in, word_promises}
@@ -22,7 +23,8 @@ use Rattle.per_runtime.proofs.application.running.Running.install.Goals as goal
 pub returns-in-Updating : goal.returns-in-Updating
 returns-in-Updating g c = install_refused g.D.Disk.told (converters_of c.args.migrations.now) c.args.now
     c.args.manifest.now c.args.self.now (g.D.Disk.medium c.args.disk.now)
-    (g.met.D.Disk.lawful c.args.disk.now) c.untouched_stands.ensures.untouched (c.args.disk.now ≡ c.args.disk.now) refl
+    (g.met.D.Disk.lawful c.args.disk.now) c.untouched_stands.ensures.untouched (c.args.disk.now ≡ c.args.disk.now)
+    refl
     c.requires.memory c.roots_in_use.ensures.app c.in-Updating.field-0 c.in-Updating.is c.refusal.result
     c.refusal.ensures
 
@@ -61,8 +63,9 @@ returns g c =
     (install_word told (converters_of c.args.migrations.now) s.app c.args.now old.image
     s.slots c.args.manifest.now (c.rows_read_the_root.ensures.install c.args.now c.args.manifest.now)
     c.rows_lead_on.ensures.install)
-    (λ tells. subst (λ n. IsCallWithin (converters_of c.args.migrations.now) n c.args.now
-    (resting_with old.image s.app s.slots) (call.Install c.args.manifest.now) (bytes_now old) (bytes_now new))
+    (λ tells. subst (λ n. IsCallWithin (converters_of c.args.migrations.now)
+    (application_at n c.args.now (resting_with old.image s.app s.slots)) (call.Install c.args.manifest.now)
+    (bytes_now old) (bytes_now new))
     (ap (λ (x : Running). x.app) c.take_root-root.ensures.left)
     (install_within told (converters_of c.args.migrations.now) taken.app c.args.now
     (resting_with old.image s.app s.slots) old new tells c.args.manifest.now c.install-made.ensures.written

@@ -8,6 +8,7 @@ use Rattle.deploy_rows.specs.Rows.{after, wiping}
 use Rattle.command_text.specs.declared.calls.Call.TheVariants as call
 use Rattle.run_model.specs.Converters.{converters_of}
 use Rattle.run_model.specs.Turns.{bytes_now}
+use Rattle.run_model.specs.Worlds.{application_at}
 use Rattle.run_model.specs.Writes.{IsCallWithin}
 use Rattle.per_runtime.specs.storages.Slots.{resting_with}
 use Rattle.per_runtime.specs.declared.application.running.Running.{Running}
@@ -42,7 +43,8 @@ returns-in_err-busy g c = λ now.
     let old = g.D.Disk.medium c.args.disk.now in
     let resting = resting_in told old.image s root c.requires.memory c.requires.rests c.take_root-root.ensures.root in
     starved_promises told (converters_of c.args.migrations.now) now call.Wipe s old
-    (g.met.D.Disk.lawful c.args.disk.now) c.untouched_stands.ensures.untouched (c.args.disk.now ≡ c.args.disk.now) refl
+    (g.met.D.Disk.lawful c.args.disk.now) c.untouched_stands.ensures.untouched (c.args.disk.now ≡ c.args.disk.now)
+    refl
     c.requires.memory
     (wipe_starves told s taken root old now resting c.requires.rests c.roots_in_use.ensures.app
     c.take_root-root.ensures.left c.in_err-busy.ensures.memory)
@@ -73,8 +75,8 @@ returns g c = λ now.
     (wipe_word told (converters_of c.args.migrations.now) s.app now old.image s.slots busy
     (busy_least told old.image s.app root s.slots c.roots_in_use.ensures.app resting busy busy_is)
     (c.rows_read_the_root.ensures.wipe busy) c.rows_lead_on.ensures.wipe)
-    (λ tells. subst (λ n. IsCallWithin (converters_of c.args.migrations.now) n now
-    (resting_with old.image s.app s.slots) call.Wipe (bytes_now old) (bytes_now new))
+    (λ tells. subst (λ n. IsCallWithin (converters_of c.args.migrations.now)
+    (application_at n now (resting_with old.image s.app s.slots)) call.Wipe (bytes_now old) (bytes_now new))
     (ap (λ (x : Running). x.app) c.take_root-root.ensures.left)
     (wipe_within told (converters_of c.args.migrations.now) taken.app now
     (resting_with old.image s.app s.slots) old new tells root
