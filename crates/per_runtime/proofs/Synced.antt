@@ -1,5 +1,5 @@
 -- A doubt is ended by a sync, and then the command goes on; where the sync fails nothing changes.
-use Rattle.std.specs.Prelude.{◌≡◌, ◌⊎◌, ◌<◌, ◌≤◌, ◌+◌, ◌*◌, ◌&&◌, ℕ, List, length, Bool, true, false, IsTrue, Option}
+use Rattle.std.specs.Prelude.{◌≡◌, ◌⊎◌, ◌<◌, ◌≤◌, ◌+◌, ◌*◌, ◌&&◌, ℕ, length, Bool, true, false, IsTrue, Option}
 use Rattle.std.specs.Prelude.{Some, None, Result, Ok, Err}
 use Rattle.std.proofs.Common.{refl, sym, ap, ap₂, ◌∙◌, subst, inl, inr, ⊎_elim, le_refl, le_trans, arith, true≢false}
 use Rattle.std.proofs.lemmas.List.{length-map}

@@ -1,5 +1,5 @@
 -- A command of the runtime: what it promises, by how it ends.
-use Rattle.std.specs.Prelude.{◌≡◌, ℕ, List, Bool, true, IsTrue, Option, Some, None, Result, slice_get, IsErrOf}
+use Rattle.std.specs.Prelude.{◌≡◌, ℕ, Bool, true, IsTrue, Option, Some, None, Result, slice_get, IsErrOf}
 use Rattle.disk_model.specs.Image.{Image}
 use Rattle.disk_model.specs.Medium.{Medium, Elapses}
 use Rattle.command_text.specs.declared.calls.Call.{Call}

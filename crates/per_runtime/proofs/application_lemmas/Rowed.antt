@@ -1,5 +1,5 @@
 -- A call of a deployment beside its row: the reply and the application after it, and where it may lead.
-use Rattle.std.proofs.Common.{◌≡◌, ◌⊎◌, ℕ, List, [], Bool, true, false, IsTrue, Option, Some, None, IfErr}
+use Rattle.std.proofs.Common.{◌≡◌, ◌⊎◌, ℕ, [], Bool, true, false, IsTrue, Option, Some, None, IfErr}
 use Rattle.std.proofs.Common.{IfOk, IsOk, IsErrOf, OnOk, is_ok, Result, Ok, Err, refl, sym, ap, ◌∙◌, inl, inr}
 use Rattle.per_base.specs.Causes.{Rose}
 use Rattle.per_base.specs.declared.errors.PerError.{PerError}
