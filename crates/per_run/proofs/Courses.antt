@@ -15,7 +15,7 @@ use Rattle.run_model.specs.Endings.{HasStarted, InReply, bad_line_text}
 use Rattle.run_model.specs.Lines.{IsBad}
 use Rattle.run_model.specs.RunLaws.{ends_disk, stops_disk}
 use Rattle.run_model.specs.Runs.{DiskSide}
-use Rattle.run_model.specs.Runtimes.{Memory}
+use Rattle.run_model.specs.Runtimes.{Memory, runtime_at}
 use Rattle.run_model.specs.Turns.{Turn, turn, events_of, AreBlamed, CountsFailures}
 use Rattle.run_model.specs.Worlds.{World}
 use Rattle.per_run.specs.declared.endings.Ending.{Ending}
@@ -23,7 +23,7 @@ use Rattle.per_run.specs.declared.endings.Ending.TheVariants.{AllRead, EndLine, 
 use Rattle.per_run.specs.declared.endings.Ending.TheVariants.{TooLong}
 use Rattle.per_run.specs.Jobs.{WroteProperPrefix}
 use Rattle.per_run.specs.Steps.{Goes, IsGoing, Handled, Course, IsLineAnswered, IsStopped, PutsOutput, IsBadLineAnswer}
-use Rattle.per_run.specs.Steps.{ending_of, runtime_at}
+use Rattle.per_run.specs.Steps.{ending_of}
 use Rattle.per_run.proofs.Gives.{front_says, give_nothing, give_turn, has_end, text_on}
 use Rattle.per_run.proofs.Goes.{goes_on}
 use Rattle.per_run.proofs.Settings.{setting}
@@ -135,7 +135,8 @@ module _ (told : Bool) (converters : Converters) (start : Medium) (before : Opti
 
   course_bad : AppLaws → (lines others : List (List ℕ)) (now later : Option (List ℕ)) (memory : Memory)
       (medium : Medium) (text : List ℕ) (number : ℕ)
-      → Handled (setting told converters start before) lines now memory medium → IsBad text → number ≡ length lines + 1
+      → Handled (setting told converters start before) lines now memory medium → IsBad text → number
+      ≡ length lines + 1
       → Appends now later (bad_line_text number)
       → Course (setting told converters start before) endings.bad_line (lines ++ text ∷ others) later medium
   course_bad laws lines others now later memory medium text number handled bad is wrote = record {
@@ -151,12 +152,14 @@ module _ (told : Bool) (converters : Converters) (start : Medium) (before : Opti
           (subst (λ (n : ℕ). Appends now later (bad_line_text n)) is wrote);
     };
     failures = counts_whole handled.goes.blamed;
-    disk = rests laws endings.bad_line tt lines (lines ++ text ∷ others) handled.turns later memory medium handled.goes;
+    disk = rests laws endings.bad_line tt lines (lines ++ text ∷ others) handled.turns later memory medium
+        handled.goes;
   }
 
   course_in_bad : AppLaws → (lines others : List (List ℕ)) (now later : Option (List ℕ)) (memory : Memory)
       (medium : Medium) (text : List ℕ) (number : ℕ)
-      → Handled (setting told converters start before) lines now memory medium → IsBad text → number ≡ length lines + 1
+      → Handled (setting told converters start before) lines now memory medium → IsBad text → number
+      ≡ length lines + 1
       → WroteProperPrefix now later (bad_line_text number)
       → Course (setting told converters start before) endings.sink (lines ++ text ∷ others) later medium
   course_in_bad laws lines others now later memory medium text number handled bad is cut =
@@ -179,7 +182,8 @@ module _ (told : Bool) (converters : Converters) (start : Medium) (before : Opti
           }),
         );
         failures = counts_whole handled.goes.blamed;
-        disk = rests laws endings.sink tt lines (lines ++ text ∷ others) handled.turns later memory medium handled.goes;
+        disk = rests laws endings.sink tt lines (lines ++ text ∷ others) handled.turns later memory medium
+            handled.goes;
       }
 
   -- memory ran out between commands
@@ -209,8 +213,10 @@ module _ (told : Bool) (converters : Converters) (start : Medium) (before : Opti
       → number ≡ length lines + 1
       → IsBadLineAnswer (bad_line_text number) now later ending → new ≡ old
       → Course (setting told converters start before) (ending_of ending) (lines ++ text ∷ others) later (medium new)
-  course_refused {D} medium laws ending lines others now later memory old new text number handled bad is refuses same =
-      subst (λ (d : D). Course (setting told converters start before) (ending_of ending) (lines ++ text ∷ others) later
+  course_refused {D} medium laws ending lines others now later memory old new text number handled bad is refuses same
+      =
+      subst (λ (d : D). Course (setting told converters start before) (ending_of ending) (lines ++ text ∷ others)
+      later
       (medium d)) (sym same) (go ending refuses)
     where
       go : (e : Ending) → IsBadLineAnswer (bad_line_text number) now later e
@@ -318,7 +324,8 @@ module _ (told : Bool) (converters : Converters) (start : Medium) (before : Opti
         gives = give_turn lines handled.turns text t handled.gives a.spelled;
         ends = (p.0, inl (in_reply p.0 lines others now later memory old text t handled p.1 p.2));
         failures = counts_whole more.1.blamed;
-        disk = rests laws endings.sink tt (lines ++ text ∷ []) (lines ++ text ∷ others) (handled.turns ++ t ∷ []) later
+        disk = rests laws endings.sink tt (lines ++ text ∷ []) (lines ++ text ∷ others) (handled.turns ++ t ∷ [])
+            later
             after new more.1;
       }
       go TooLong p = absurd p
@@ -337,7 +344,8 @@ module _ (told : Bool) (converters : Converters) (start : Medium) (before : Opti
     disk = rests laws endings.all_read tt lines all handled.turns now memory medium handled.goes;
   }
 
-  pub course_source : AppLaws → (lines all : List (List ℕ)) (now : Option (List ℕ)) (memory : Memory) (medium : Medium)
+  pub course_source : AppLaws
+      → (lines all : List (List ℕ)) (now : Option (List ℕ)) (memory : Memory) (medium : Medium)
       → Handled (setting told converters start before) lines now memory medium → all ≡ lines
       → Course (setting told converters start before) endings.source all now medium
   course_source laws lines all now memory medium handled is = record {

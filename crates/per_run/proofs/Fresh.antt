@@ -40,7 +40,8 @@ resting_all f a app (suc n) is = ap₂ (λ (x : App) (xs : List Application). re
     (is app (omega arith) (omega arith))
     (resting_all f a (app + 1) n (λ i least most. is i (omega (arith, least)) (omega (arith, most))))
 
-pub is_formatted : (image : Image) → ((app : ℕ) → app < 8 → app_at image app ≡ empty_app 1) → world_at image ≡ formatted
+pub is_formatted : (image : Image) → ((app : ℕ) → app < 8 → app_at image app ≡ empty_app 1) → world_at image
+    ≡ formatted
 unfolding world_at
 is_formatted image each = ap (λ (apps : List Application). record formatted { apps = apps })
     (resting_all (app_at image) (empty_app 1) 0 8 (λ i least most. each i most))
@@ -156,10 +157,6 @@ generates_none told converters n status now old new is later failed formats = re
 
 -- ---- a synthetic workload that was handled
 
-begins_calm : (image : Image) → (after_start (world_at image)).doubt ≡ None
-unfolding world_at
-begins_calm image = refl
-
 start_formatted : after_start formatted ≡ formatted
 start_formatted = refl
 
@@ -264,7 +261,8 @@ handled_begun (inr (inr six)) = tt
 
 pub generates_all : {Cause : Type 0} (told : Bool) (converters : Converters) (n status : ℕ)
     (before now : Option (List ℕ)) (memory after : Memory) (tally : Tally) (old middle begun new : Medium)
-    → IsServeBegun told memory old middle begun → (counted : Counted (setting told converters middle None) (generated n)
+    → IsServeBegun told memory old middle begun
+    → (counted : Counted (setting told converters middle None) (generated n)
     after tally new)
     → WritesOutput status before now (summary (n + 5) (replies_of counted.turns))
     → (status ≡ 0) ⊎ ((status ≡ 4) ⊎ ((status ≡ 6) × Cause))
@@ -284,7 +282,8 @@ generates_all told converters n status before now memory after tally old middle 
       failures = counts_whole (subst (λ (n : ℕ). AreBlamed n counted.turns new.faults) b.passes counted.goes.blamed);
       follow = λ tells.
           let g : IsGoing converters middle counted.turns after new = counted.goes.disk tells in
-          follow_from converters (after_start (world_at middle.image)) formatted counted.turns (here tells) g.2.follow;
+          follow_from converters (after_start (world_at middle.image)) formatted counted.turns (here tells)
+          g.2.follow;
       bounded = λ tells.
           let g : IsGoing converters middle counted.turns after new = counted.goes.disk tells in record {
             begun = g.2.begun;
@@ -300,9 +299,7 @@ generates_all told converters n status before now memory after tally old middle 
       settled = λ tells done.
           let g : IsGoing converters middle counted.turns after new = counted.goes.disk tells in
           subst (λ (w : World). IsSettled (last_of w (worlds_of counted.turns)) new) (here tells)
-          (ends_settled converters (world_at middle.image) (after_start (world_at middle.image))
-          (begins_calm middle.image)
-          counted.turns after g.0 middle new g.2);
+          (ends_settled converters middle counted.turns after g.0 new g.2);
       unbegun = λ open_end. absurd (open_end (handled_begun is));
       clean = λ tells started app lt calm passes.
           let g : IsGoing converters middle counted.turns after new = counted.goes.disk tells in

@@ -5,7 +5,7 @@ use Rattle.command_text.specs.declared.calls.Event.{Event}
 use Rattle.command_text.specs.declared.replies.Reply.{Reply}
 use Rattle.run_model.specs.Converters.{Converters}
 use Rattle.run_model.specs.RunLaws.{blamed_on, starts_going, steps_going}
-use Rattle.run_model.specs.Runtimes.{Memory, IsDoubt, Starts, Stepped, world_of}
+use Rattle.run_model.specs.Runtimes.{Memory, IsDoubt, Starts, Stepped, world_of, runtime_at}
 use Rattle.run_model.specs.Turns.{Turn, turn, IsBlamed}
 use Rattle.run_model.specs.Worlds.{Doubt, World, formatted}
 use Rattle.per_run.specs.Steps.{Goes, IsGoing}
@@ -15,7 +15,7 @@ module _ (converters : Converters) (start : Medium) where
   told_on : (turns : List Turn) (e : Event) (reply : Reply) (before after : Memory) (now new : Medium)
       → IsLawful true new → Elapses now new
       → (g : IsGoing converters start turns before now)
-      → (s : Stepped converters e reply before after g.0 now new)
+      → (s : Stepped converters e reply g.0 (runtime_at before now) (runtime_at after new))
       → IsGoing converters start (turns ++ turn e reply new (world_of new.image after s.doubt') ∷ []) after
       new
   told_on turns e reply before after now new lawful time g s = (
@@ -26,11 +26,12 @@ module _ (converters : Converters) (start : Medium) where
   )
 
   -- one command more
-  pub goes_on : (told : Bool) (turns : List Turn) (e : Event) (reply : Reply) (before after : Memory) (now new : Medium)
+  pub goes_on : (told : Bool) (turns : List Turn) (e : Event) (reply : Reply) (before after : Memory)
+      (now new : Medium)
       → IsLawful told new → Elapses now new
       → Goes told converters start turns before now → IsBlamed now.faults new.faults reply
       → (IsTrue told → (doubt : Option Doubt) → IsDoubt before doubt
-      → Stepped converters e reply before after doubt now new)
+      → Stepped converters e reply doubt (runtime_at before now) (runtime_at after new))
       → (w : World) × Goes told converters start (turns ++ turn e reply new w ∷ []) after new
   goes_on false turns e reply before after now new lawful time goes blamed stepped = (
     formatted,
@@ -41,7 +42,7 @@ module _ (converters : Converters) (start : Medium) where
   )
   goes_on true turns e reply before after now new lawful time goes blamed stepped =
       let g : IsGoing converters start turns before now = goes.disk refl in
-      let s : Stepped converters e reply before after g.0 now new = stepped refl g.0 g.1 in
+      let s : Stepped converters e reply g.0 (runtime_at before now) (runtime_at after new) = stepped refl g.0 g.1 in
       let w : World = world_of new.image after s.doubt' in (
         w,
         record {

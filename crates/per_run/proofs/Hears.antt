@@ -8,7 +8,6 @@ use Rattle.std.proofs.lemmas.List.Concat.{flat_map-append}
 use Rattle.std.specs.Fmt.{decimal}
 use Rattle.std.specs.Io.KnownBytes.{Appends}
 use Rattle.std.specs.List.{AllByRecursion}
-use Rattle.disk_model.specs.Image.{Image}
 use Rattle.disk_model.specs.Medium.{Medium, IsLawful, Elapses}
 use Rattle.command_text.specs.declared.lines.Line.TheVariants as line
 use Rattle.command_text.specs.declared.replies.Reply.{Reply}
@@ -22,7 +21,7 @@ use Rattle.run_model.specs.Lines.{IsBad}
 use Rattle.run_model.specs.Moments.{last_of}
 use Rattle.run_model.specs.RunLaws.{ends_settled, stops_disk}
 use Rattle.run_model.specs.Runs.{IsSettled}
-use Rattle.run_model.specs.Runtimes.{Memory}
+use Rattle.run_model.specs.Runtimes.{Memory, runtime_at}
 use Rattle.run_model.specs.Turns.{Turn, turn, worlds_of}
 use Rattle.run_model.specs.Worlds.{World, after_start, world_at}
 use Rattle.per_run.specs.declared.endings.Ending.{Ending}
@@ -31,7 +30,7 @@ use Rattle.per_run.specs.declared.endings.Ending.TheVariants.{TooLong}
 use Rattle.per_run.specs.Serves.{Heard, IsCutAfter, IsHeard, ServesBy, answered, heard_line, lines_in, next_line_number}
 use Rattle.per_run.specs.Serves.{passed, refused, heard_text, heard_texts, texts_after, turn_in, turns_in}
 use Rattle.per_run.specs.Serving.{Hearing, HearsOne, Service}
-use Rattle.per_run.specs.Steps.{Goes, IsGoing, IsLineAnswered, IsStopped, PutsOutput, ending_of, runtime_at}
+use Rattle.per_run.specs.Steps.{Goes, IsGoing, IsLineAnswered, IsStopped, PutsOutput, ending_of}
 use Rattle.per_run.proofs.Courses as courses
 use Rattle.per_run.proofs.Courses.{counts_whole}
 use Rattle.per_run.proofs.Gives.{has_end}
@@ -74,10 +73,6 @@ are_on (x ∷ heard) h are is = (are.0, are_on heard h are.1 is)
 some_text : (number : ℕ) → 0 < length (bad_line_text number)
 some_text number = omega (arith, length-append (codes "bad-line ") (decimal number ++ codes "\n"))
 
-begins_calm : (image : Image) → (after_start (world_at image)).doubt ≡ None
-unfolding world_at
-begins_calm image = refl
-
 module _ (told : Bool) (converters : Converters) (start : Medium) (before : Option (List ℕ)) where
   goes_as : (turns same : List Turn) (memory : Memory) (medium : Medium) → same ≡ turns
       → Goes told converters start turns memory medium
@@ -105,7 +100,8 @@ module _ (told : Bool) (converters : Converters) (start : Medium) (before : Opti
       → later ≡ memory → new ≡ old
       → HearsOne (setting told converters start before) heard text now later (medium new)
   hears_nothing {D} medium heard number now memory later old new text counts hearing is same_memory same_disk =
-      subst (λ (d : D). HearsOne (setting told converters start before) heard text now later (medium d)) (sym same_disk)
+      subst (λ (d : D). HearsOne (setting told converters start before) heard text now later (medium d))
+      (sym same_disk)
       (subst (λ (m : Memory). HearsOne (setting told converters start before) heard text now m (medium old))
       (sym same_memory) (
         passed text,
@@ -115,7 +111,8 @@ module _ (told : Bool) (converters : Converters) (start : Medium) (before : Opti
             (goes_as _ _ memory (medium old) (append-nil (turns_in heard)) hearing.goes),
       ))
 
-  pub hears_refused : {D : Type 0} (medium : D → Medium) (heard : List Heard) (number : ℕ) (now later : Option (List ℕ))
+  pub hears_refused : {D : Type 0} (medium : D → Medium) (heard : List Heard) (number : ℕ)
+      (now later : Option (List ℕ))
       (memory after : Memory) (old new : D) (text : List ℕ) → number ≡ next_line_number (length heard)
       → Hearing (setting told converters start before) heard now memory (medium old) → IsBad text
       → Appends now later (bad_line_text number) → after ≡ memory → new ≡ old
@@ -163,8 +160,7 @@ module _ (told : Bool) (converters : Converters) (start : Medium) (before : Opti
       → IsTrue told → IsSettled (last_of (after_start (world_at start.image)) (worlds_of turns)) now
   rests turns memory now goes tells =
       let g : IsGoing converters start turns memory now = goes.disk tells in
-      ends_settled converters (world_at start.image) (after_start (world_at start.image)) (begins_calm start.image)
-      turns memory g.0 start now g.2
+      ends_settled converters start turns memory g.0 now g.2
 
   -- where no command is in progress
   pub service : AppLaws → (ending : endings.Ending) → HasStarted ending → (heard : List Heard) (all : List (List ℕ))
@@ -188,7 +184,8 @@ module _ (told : Bool) (converters : Converters) (start : Medium) (before : Opti
       → same ≡ all → Service (setting told converters start before) ending all now medium
       → Service (setting told converters start before) ending same now medium
   service_along ending all same now medium is course =
-      subst (λ (l : List (List ℕ)). Service (setting told converters start before) ending l now medium) (sym is) course
+      subst (λ (l : List (List ℕ)). Service (setting told converters start before) ending l now medium) (sym is)
+      course
 
   -- at the line `end`
   pub service_end : {D : Type 0} (medium : D → Medium) → AppLaws → (heard : List Heard) (others : List (List ℕ))
@@ -243,9 +240,11 @@ module _ (told : Bool) (converters : Converters) (start : Medium) (before : Opti
       (text : List ℕ) → IsLawful told (medium new) → Elapses (medium old) (medium new)
       → Hearing (setting told converters start before) heard now memory (medium old)
       → (new ≡ old) ⊎ IsStopped told converters text memory (medium old) (medium new)
-      → Service (setting told converters start before) endings.memory (lines_in heard ++ text ∷ others) now (medium new)
+      → Service (setting told converters start before) endings.memory (lines_in heard ++ text ∷ others) now
+      (medium new)
   service_short {D} medium laws heard others now memory old new text lawful time hearing (inl same) =
-      subst (λ (d : D). Service (setting told converters start before) endings.memory (lines_in heard ++ text ∷ others)
+      subst (λ (d : D). Service (setting told converters start before) endings.memory
+      (lines_in heard ++ text ∷ others)
       now (medium d)) (sym same)
       (service_memory laws heard (text ∷ others) now memory (medium old) hearing)
   service_short {D} medium laws heard others now memory old new text lawful time hearing (inr stopped) =
@@ -307,7 +306,8 @@ module _ (told : Bool) (converters : Converters) (start : Medium) (before : Opti
       → IsLineAnswered told converters text (runtime_at memory old) (runtime_at after new) reply
       → PutsOutput {T = Unit {0}} (reply_text reply) now later (Err ending)
       → Service (setting told converters start before) (ending_of ending) (lines_in heard ++ text ∷ others) later new
-  service_in_reply laws ending heard number others now later memory after old new text reply counts lawful time hearing
+  service_in_reply laws ending heard number others now later memory after old new text reply counts lawful time
+      hearing
       a puts =
       let more = turned heard now memory after old new text reply lawful time hearing a in
       service_cut laws ending heard (answered text (turn a.event reply new more.0)) number others now later

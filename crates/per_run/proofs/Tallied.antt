@@ -15,7 +15,7 @@ use Rattle.command_text.specs.Generated.{first_lines, generated, generated_line,
 use Rattle.command_text.specs.Generated.{next_number}
 use Rattle.run_model.specs.AppLaws.{AppLaws}
 use Rattle.run_model.specs.Converters.{Converters}
-use Rattle.run_model.specs.Runtimes.{Memory}
+use Rattle.run_model.specs.Runtimes.{Memory, runtime_at}
 use Rattle.run_model.specs.Turns.{Turn, turn, replies_of}
 use Rattle.run_model.specs.Worlds.{World}
 use Rattle.per_run.specs.declared.answering.LineOutcome.{LineOutcome}
@@ -24,7 +24,6 @@ use Rattle.per_run.specs.declared.tally.Tally.{Tally}
 use Rattle.per_run.specs.Jobs.{BeginWith, done_in, error_in, number_in, is_done, is_error, is_other, size_given}
 use Rattle.per_run.specs.Jobs.{summary, summary_text}
 use Rattle.per_run.specs.Steps.{Counted, Goes, Handled, IsLineAnswered, IsLineOutcome, IsStopped, RunsShort, Tallies}
-use Rattle.per_run.specs.Steps.{runtime_at}
 use Rattle.per_run.proofs.Courses.{course_memory, course_short}
 use Rattle.per_run.proofs.Gives.{give_turn, replies_on}
 use Rattle.per_run.proofs.Goes.{goes_on}
@@ -171,7 +170,8 @@ module _ (told : Bool) (converters : Converters) (start : Medium) where
       → Counted (setting told converters start None) lines memory tally medium
       → Counted (setting told converters start None) same memory tally medium
   counted_along lines same memory tally medium is counted =
-      subst (λ (l : List (List ℕ)). Counted (setting told converters start None) l memory tally medium) (sym is) counted
+      subst (λ (l : List (List ℕ)). Counted (setting told converters start None) l memory tally medium) (sym is)
+      counted
 
 -- ---- lines that begin with others
 

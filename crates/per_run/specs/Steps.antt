@@ -23,9 +23,9 @@ use Rattle.run_model.specs.Endings.{EndsBy, IsInput}
 use Rattle.run_model.specs.Lines.{Give, IsBad, lines_of}
 use Rattle.run_model.specs.RunLaws.{Going}
 use Rattle.run_model.specs.Runs.{DiskSide}
-use Rattle.run_model.specs.Runtimes.{IsDoubt, IsNoRoot, Memory, Starts, Stepped, Stopped}
+use Rattle.run_model.specs.Runtimes.{IsDoubt, IsNoRoot, Memory, Starts, Stepped, Stopped, RuntimeAt, runtime_at}
 use Rattle.run_model.specs.Turns.{Turn, events_of, replies_of, replies_text, IsBlamed, AreBlamed, CountsFailures}
-use Rattle.run_model.specs.Worlds.{Doubt, world_at, after_start, formatted}
+use Rattle.run_model.specs.Worlds.{Doubt, world_at, formatted}
 use Rattle.run_model.specs.Writes.{AreRootsAlone}
 use Rattle.per_run.specs.declared.answering.LineOutcome.{LineOutcome}
 use Rattle.per_run.specs.declared.answering.LineOutcome.TheVariants as outcome
@@ -86,14 +86,6 @@ IsBadLineAnswer text before now other = ⊥
 
 -- ---- one line
 
--- the runtime at one moment: what it keeps in memory, and the disk
-pub record RuntimeAt {ℓ} (D : Type ℓ) : Type ℓ where
-  pub memory : Memory
-  pub disk : D
-
-abbrev pub runtime_at {ℓ} : {D : Type ℓ} → Memory → D → RuntimeAt D
-runtime_at memory disk = record { memory = memory; disk = disk }
-
 -- the command of the line was answered
 pub record IsLineAnswered (told : Bool) (converters : Converters) (text : List ℕ) (old new : RuntimeAt Medium)
     (reply : Reply) : Type 0 where
@@ -102,7 +94,7 @@ pub record IsLineAnswered (told : Bool) (converters : Converters) (text : List �
   pub has_text : HasText reply.answer
   pub blamed : IsBlamed old.disk.faults new.disk.faults reply
   pub stepped : IsTrue told → (doubt : Option Doubt) → IsDoubt old.memory doubt
-      → Stepped converters event reply old.memory new.memory doubt old.disk new.disk
+      → Stepped converters event reply doubt old new
 
 -- memory ran out in the command of the line, in which no call of the disk had failed
 pub record IsStopped (told : Bool) (converters : Converters) (text : List ℕ) (before : Memory)
@@ -110,7 +102,7 @@ pub record IsStopped (told : Bool) (converters : Converters) (text : List ℕ) (
   pub event : Event
   pub spelled : IsLine text (line.Event event)
   pub stopped : IsTrue told → (doubt : Option Doubt) → IsDoubt before doubt
-      → Stopped converters event before doubt old new
+      → Stopped converters event doubt (runtime_at before old) new
   pub fed : new.faults ≡ old.faults
 
 -- what came of a line
@@ -133,7 +125,7 @@ IsLineOutcome of_disk converters text old new outcome.OutOfMemory = (new.disk �
 -- was done) or none, and the run goes on from there
 abbrev pub IsGoing : Converters → (start : Medium) → List Turn → Memory → (now : Medium) → Type 0
 IsGoing converters start turns memory now = (doubt : Option Doubt) × IsDoubt memory doubt
-    × Going converters (world_at start.image) (after_start (world_at start.image)) turns memory doubt start now
+    × Going converters start turns doubt (runtime_at memory now)
 
 -- The commands were answered since the start of the run, each with its cause.
 pub record Goes (told : Bool) (converters : Converters) (start : Medium) (turns : List Turn) (memory : Memory)

@@ -15,7 +15,7 @@ use Rattle.deploy_laws.specs.Apps.{app_at}
 use Rattle.deploy_laws.specs.Places.{IsNoFileOf}
 use Rattle.run_model.specs.AppLaws.{AppLaws}
 use Rattle.run_model.specs.Converters.{Converters}
-use Rattle.run_model.specs.Runtimes.{IsDoubt, Stepped, Stopped, calls_none, world_of}
+use Rattle.run_model.specs.Runtimes.{IsDoubt, Stepped, Stopped, calls_none, world_of, runtime_at}
 use Rattle.run_model.specs.Steps.{calls_device, failure}
 use Rattle.run_model.specs.Lasting.{IsWorld}
 use Rattle.run_model.specs.Worlds.{Application, Doubt, app_of}
@@ -65,7 +65,8 @@ module _ (laws : AppLaws) (makes : MakesOne) (stays : StaysInUse) (converters : 
   number : a.app ≡ n
   number = (are.each n a there_is).0
 
-  in_use : a'.app ≡ a.app → IsRunning told new.image a' → (IsTrue told → Spares (IsNoFileOf a.app) old.image new.image)
+  in_use : a'.app ≡ a.app → IsRunning told new.image a'
+      → (IsTrue told → Spares (IsNoFileOf a.app) old.image new.image)
       → AreRunning told new.image (slice_set apps n a')
   in_use same used elsewhere = are_set stays told old.image new.image n apps a' below (same ∙ number)
       (λ tells f outside. elsewhere tells f (subst (λ (k : ℕ). IsNoFileOf k f) (sym number) outside)) used are
@@ -99,7 +100,8 @@ module _ (laws : AppLaws) (makes : MakesOne) (stays : StaysInUse) (converters : 
 
   pub answered_steps : (reply : Reply) → IsCommandAnswered told converters now c a a' old new reply → IsTrue told
       → (doubt : Option Doubt) → IsDoubt (kept now apps b) doubt
-      → Stepped converters (event.App n c) reply (kept now apps b) (kept now (slice_set apps n a') b) doubt old new
+      → Stepped converters (event.App n c) reply doubt (runtime_at (kept now apps b) old)
+      (runtime_at (kept now (slice_set apps n a') b) new)
   answered_steps reply is tells None sure = answered_sure laws converters told tells old new now n c apps a a' below
       are.eight there_is number h.time (λ none. reads (h.idle tells none)) (h.written tells) h.looks
       (h.place tells) (h.within tells)
@@ -116,8 +118,8 @@ module _ (laws : AppLaws) (makes : MakesOne) (stays : StaysInUse) (converters : 
 
   pub failed_steps : IsFailed told converters now c a a' old new → IsLawful told new → IsTrue told
       → (doubt : Option Doubt) → IsDoubt (kept now apps b) doubt
-      → Stepped converters (event.App n c) failure (kept now apps b) (kept now (slice_set apps n a') true) doubt old
-      new
+      → Stepped converters (event.App n c) failure doubt (runtime_at (kept now apps b) old)
+      (runtime_at (kept now (slice_set apps n a') true) new)
   failed_steps is lawful tells None sure = failed_sure laws converters told tells old new now n c apps a a' below
       are.eight there_is number h.time (λ none. reads (h.idle tells none)) (h.written tells) h.looks
       (h.place tells) (h.within tells)
@@ -129,7 +131,7 @@ module _ (laws : AppLaws) (makes : MakesOne) (stays : StaysInUse) (converters : 
 
   pub stopped_steps : (IsTrue told → IsCallInProgress converters a.app now c (application old.image a) old new)
       → IsTrue told → (doubt : Option Doubt) → IsDoubt (kept now apps b) doubt
-      → Stopped converters (event.App n c) (kept now apps b) doubt old new
+      → Stopped converters (event.App n c) doubt (runtime_at (kept now apps b) old) new
   stopped_steps is tells None sure = stopped_sure laws converters told tells old new now n c apps a a' below
       are.eight there_is number h.time (λ none. reads (h.idle tells none)) (h.written tells) h.looks
       (h.place tells) (h.within tells)

@@ -23,7 +23,7 @@ use Rattle.run_model.specs.Later.{set_length}
 use Rattle.run_model.specs.Lasting.{IsWorld}
 use Rattle.run_model.specs.Moments.{IsReady, KeepsApplication}
 use Rattle.run_model.specs.Runtimes.{Memory, IsBesideNamed, IsDoubt, IsUnwritten, StaysAside, Stepped, Stopped}
-use Rattle.run_model.specs.Runtimes.{WritesWithin}
+use Rattle.run_model.specs.Runtimes.{WritesWithin, runtime_at}
 use Rattle.run_model.specs.Runtimes.{WrittenBy, calls_none, is_durable, is_refusal, only_looks, only_plans, opens_root}
 use Rattle.run_model.specs.Runtimes.{writes_none}
 use Rattle.run_model.specs.Sessions.{Session}
@@ -96,8 +96,8 @@ not_four e = cc
 pub now_steps : AppLaws → MakesOne → (converters : Converters) (told : Bool) (m : Medium) (now t : ℕ)
     (apps : List Running) (b : Bool) → IsTrue told → IsLawful told m
     → AreRunning told m.image apps → (b ≡ false → Quiet m) → (doubt : Option Doubt) → IsDoubt (kept now apps b) doubt
-    → Stepped converters (event.Now t) (record { reports = []; answer = answer.Done }) (kept now apps b)
-    (kept t apps b) doubt m m
+    → Stepped converters (event.Now t) (record { reports = []; answer = answer.Done }) doubt
+    (runtime_at (kept now apps b) m) (runtime_at (kept t apps b) m)
 now_steps laws makes converters told m now t apps b tells lawful are quiet doubt is = record {
   eight = length-map apps running_in ∙ are.eight;
   doubt' = doubt;
@@ -309,7 +309,8 @@ module _ (laws : AppLaws) (converters : Converters) (told : Bool) (tells : IsTru
       reply
       → Quiet old
       → ((doubt : Option Doubt) → IsWorld (world new.image now (slice_set apps n a') doubt))
-      → Stepped converters (event.App n c) reply (kept now apps b) (kept now (slice_set apps n a') b) None old new
+      → Stepped converters (event.App n c) reply None (runtime_at (kept now apps b) old)
+      (runtime_at (kept now (slice_set apps n a') b) new)
   unfolding then before after was e
   answered_sure reply b sure h quiet world =
       let number' : a'.app ≡ n = h.app ∙ number in
@@ -366,8 +367,8 @@ module _ (laws : AppLaws) (converters : Converters) (told : Bool) (tells : IsTru
   pub answered_doubtful : (reply : Reply) (d : Doubt) (b : Bool) → true ≡ b
       → IsCommandAnswered told converters now c a a' old new reply → calls_device (application old.image a) c ≡ false
       → ((doubt : Option Doubt) → IsWorld (world new.image now (slice_set apps n a') doubt))
-      → Stepped converters (event.App n c) reply (kept now apps b) (kept now (slice_set apps n a') b) (Some d) old
-      new
+      → Stepped converters (event.App n c) reply (Some d) (runtime_at (kept now apps b) old)
+      (runtime_at (kept now (slice_set apps n a') b) new)
   unfolding then before e
   answered_doubtful reply d b sure h calm world =
       let reads : OnlyReads old new = idle calm in
@@ -415,8 +416,8 @@ module _ (laws : AppLaws) (converters : Converters) (told : Bool) (tells : IsTru
   pub failed_sure : (b : Bool) → false ≡ b → IsFailed told converters now c a a' old new → IsLawful told new
       → Quiet old
       → ((doubt : Option Doubt) → IsWorld (world new.image now (slice_set apps n a') doubt))
-      → Stepped converters (event.App n c) failure (kept now apps b) (kept now (slice_set apps n a') true) None old
-      new
+      → Stepped converters (event.App n c) failure None (runtime_at (kept now apps b) old)
+      (runtime_at (kept now (slice_set apps n a') true) new)
   unfolding then before after was e
   failed_sure b sure h lawful quiet world =
       let number' : a'.app ≡ n = h.app ∙ number in
@@ -463,7 +464,7 @@ module _ (laws : AppLaws) (converters : Converters) (told : Bool) (tells : IsTru
   pub stopped_sure : (b : Bool) → false ≡ b → IsCallInProgress converters a.app now c
       (application old.image a) old new
       → Quiet old
-      → Stopped converters (event.App n c) (kept now apps b) None old new
+      → Stopped converters (event.App n c) None (runtime_at (kept now apps b) old) new
   unfolding before after was e
   stopped_sure b sure progress quiet =
       let calls : CallsTo n progress.next old new = calls_on progress.next progress.calls in
@@ -481,7 +482,7 @@ module _ (laws : AppLaws) (converters : Converters) (told : Bool) (tells : IsTru
       }
 
   pub stopped_doubtful : (d : Doubt) (b : Bool) → true ≡ b → calls_device (application old.image a) c ≡ false
-      → Stopped converters (event.App n c) (kept now apps b) (Some d) old new
+      → Stopped converters (event.App n c) (Some d) (runtime_at (kept now apps b) old) new
   unfolding before was e
   stopped_doubtful d b sure calm =
       let reads : OnlyReads old new = idle calm in

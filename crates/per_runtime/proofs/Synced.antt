@@ -26,7 +26,7 @@ use Rattle.run_model.specs.KeepLaws.{after_sync_keeps, failed_sync_keeps}
 use Rattle.run_model.specs.Moments.{IsMoment, IsReady, StepKeeps, StopKeeps}
 use Rattle.run_model.specs.Runtimes.{Memory, IsDoubt, IsElsewhere, IsUnwritten, StaysAside, Stepped, StepsOn, Stopped}
 use Rattle.run_model.specs.Runtimes.{IsBesideNamed, WrittenBy, WritesWithin, calls_none, only_looks, world_of}
-use Rattle.run_model.specs.Runtimes.{writes_none}
+use Rattle.run_model.specs.Runtimes.{writes_none, runtime_at}
 use Rattle.run_model.specs.Turns.{DiskBytes, IsBlamed, bytes_now}
 use Rattle.run_model.specs.WriteLaws.{command_unwritten}
 use Rattle.run_model.specs.Writes.{IsCommandWithin, OnlyOpens}
@@ -63,7 +63,8 @@ within : (copies contents index before after : ℕ) → after ≡ before → IsW
 within copies contents index before after same = subst (λ (k : ℕ). k ≤ before + copies * (contents + index + 88))
     (sym same) (omega arith)
 
-more : (copies contents index before before' after : ℕ) → before ≡ before' → IsWithin copies contents index before after
+more : (copies contents index before before' after : ℕ) → before ≡ before'
+    → IsWithin copies contents index before after
     → IsWithin copies contents index before' after
 more copies contents index before before' after same bound =
     subst (λ (k : ℕ). after ≤ k + copies * (contents + index + 88)) same bound
@@ -155,12 +156,14 @@ module _ (converters : Converters) (told : Bool) (n : ℕ) (c : Call) (m : Memor
     place_on : Spares (IsBesideNamed (world_of mid.image (sure m) None) (event.App n c)) mid.image new.image
         → Spares (IsBesideNamed before (event.App n c)) old.image new.image
     unfolding before
-    place_on place file beside = place file (subst (λ (w : World). IsBesideNamed w (event.App n c) file) (sym synced_is)
+    place_on place file beside = place file
+        (subst (λ (w : World). IsBesideNamed w (event.App n c) file) (sym synced_is)
         beside) ∙ ap (λ (i : Image). i file) nothing.image
 
     -- where it leads
-    step_on : (reply : Reply) (w' : World) → StepsOn converters (without_doubt before) (event.App n c) reply w' mid
-        new → StepsOn converters before (event.App n c) reply w' old new
+    step_on : (reply : Reply) (w' : World)
+        → StepsOn converters (without_doubt before) (event.App n c) reply w' (OnlyReads mid new)
+        → StepsOn converters before (event.App n c) reply w' (OnlyReads old new)
     unfolding before
     step_on reply w' (inl step) = inl (
       step.0,
@@ -175,8 +178,9 @@ module _ (converters : Converters) (told : Bool) (n : ℕ) (c : Call) (m : Memor
         (sym fails.0.0 ∙ and_none (calls_device (app_of before n) c)))
     step_on reply w' (inr (inr fails)) = inr (inr fails)
 
-    pub stepped : (reply : Reply) (m' : Memory) → Stepped converters (event.App n c) reply (sure m) m' None mid new
-        → Stepped converters (event.App n c) reply m m' (Some d) old new
+    pub stepped : (reply : Reply) (m' : Memory)
+        → Stepped converters (event.App n c) reply None (runtime_at (sure m) mid) (runtime_at m' new)
+        → Stepped converters (event.App n c) reply (Some d) (runtime_at m old) (runtime_at m' new)
     unfolding before
     stepped reply m' s =
         let w' : World = world_of new.image m' s.doubt' in
@@ -184,7 +188,8 @@ module _ (converters : Converters) (told : Bool) (n : ℕ) (c : Call) (m : Memor
           eight = s.eight;
           doubt' = s.doubt';
           is_doubt = s.is_doubt;
-          step = step_on reply w' (subst (λ (w : World). StepsOn converters w (event.App n c) reply w' mid new)
+          step = step_on reply w'
+              (subst (λ (w : World). StepsOn converters w (event.App n c) reply w' (OnlyReads mid new))
               synced_is s.step);
           world = s.world;
           keeps = λ k lt. after_sync_keeps k before w' d told old mid new refl lawful time nothing quiet later
@@ -201,8 +206,8 @@ module _ (converters : Converters) (told : Bool) (n : ℕ) (c : Call) (m : Memor
           blamed = blamed_behind reply old mid new time.faults passes s.blamed;
         }
 
-    pub stopped : Stopped converters (event.App n c) (sure m) None mid new
-        → Stopped converters (event.App n c) m (Some d) old new
+    pub stopped : Stopped converters (event.App n c) None (runtime_at (sure m) mid) new
+        → Stopped converters (event.App n c) (Some d) (runtime_at m old) new
     unfolding before
     stopped s = record {
       after = s.after;
@@ -234,7 +239,8 @@ module _ (converters : Converters) (told : Bool) (n : ℕ) (c : Call) (m : Memor
 
   -- the sync failed
   pub unsynced : OnlyReads old mid → Rose old.faults mid.faults → m.in_doubt ≡ true → length m.apps ≡ 8
-      → IsWorld (world_of old.image m (Some d)) → Stepped converters (event.App n c) failure m m (Some d) old mid
+      → IsWorld (world_of old.image m (Some d))
+      → Stepped converters (event.App n c) failure (Some d) (runtime_at m old) (runtime_at m mid)
   unfolding before
   unsynced reads rose doubt eight world =
       let same : world_of mid.image m (Some d) ≡ before = ap (λ (i : Image). world_of i m (Some d)) reads.image in
@@ -292,10 +298,11 @@ module _ (converters : Converters) (told : Bool) (n : ℕ) (c : Call) (r : Runti
       (passes : mid.faults ≡ old.faults) where
     steps_on : (reply : Reply) → Elapses mid new
         → (IsTrue told → (doubt : Option Doubt) → IsDoubt (memory_of (record r { in_doubt = false })) doubt
-        → Stepped converters (event.App n c) reply (memory_of (record r { in_doubt = false })) (memory_of r') doubt
-        mid new)
+        → Stepped converters (event.App n c) reply doubt (runtime_at (memory_of (record r { in_doubt = false })) mid)
+        (runtime_at (memory_of r') new))
         → IsTrue told → (doubt : Option Doubt) → IsDoubt (memory_of r) doubt
-        → Stepped converters (event.App n c) reply (memory_of r) (memory_of r') doubt old new
+        → Stepped converters (event.App n c) reply doubt (runtime_at (memory_of r) old)
+        (runtime_at (memory_of r') new)
     steps_on reply later steps tells None is = absurd (true≢false (sym in_doubt ∙ sym is))
     steps_on reply later steps tells (Some d) is = stepped converters told n c (memory_of r) d old mid new
         (calls_in told old.image r n c (Some d) tells below used.apps calls)
@@ -303,9 +310,9 @@ module _ (converters : Converters) (told : Bool) (n : ℕ) (c : Call) (r : Runti
 
     stops_on : Elapses mid new
         → (IsTrue told → (doubt : Option Doubt) → IsDoubt (memory_of (record r { in_doubt = false })) doubt
-        → Stopped converters (event.App n c) (memory_of (record r { in_doubt = false })) doubt mid new)
+        → Stopped converters (event.App n c) doubt (runtime_at (memory_of (record r { in_doubt = false })) mid) new)
         → IsTrue told → (doubt : Option Doubt) → IsDoubt (memory_of r) doubt
-        → Stopped converters (event.App n c) (memory_of r) doubt old new
+        → Stopped converters (event.App n c) doubt (runtime_at (memory_of r) old) new
     stops_on later stops tells None is = absurd (true≢false (sym in_doubt ∙ sym is))
     stops_on later stops tells (Some d) is = stopped converters told n c (memory_of r) d old mid new
         (calls_in told old.image r n c (Some d) tells below used.apps calls)
@@ -340,7 +347,7 @@ module _ (converters : Converters) (told : Bool) (n : ℕ) (c : Call) (r : Runti
   -- the sync failed, and nothing changed
   fails_on : MakesOne → OnlyReads old mid → Rose old.faults mid.faults → IsTrue told → (doubt : Option Doubt)
       → IsDoubt (memory_of r) doubt
-      → Stepped converters (event.App n c) failure (memory_of r) (memory_of r) doubt old mid
+      → Stepped converters (event.App n c) failure doubt (runtime_at (memory_of r) old) (runtime_at (memory_of r) mid)
   fails_on makes reads rose tells None is = absurd (true≢false (sym in_doubt ∙ sym is))
   fails_on makes reads rose tells (Some d) is = unsynced converters told n c (memory_of r) d old mid mid
       (calls_in told old.image r n c (Some d) tells below used.apps calls) nothing time

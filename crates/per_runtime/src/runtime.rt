@@ -5,7 +5,7 @@ ghost use Rattle.disk_model.specs.Medium.{Elapses};
 ghost use Rattle.command_text.specs.Grammar.{IsEvent};
 ghost use Rattle.command_text.specs.Replies.{HasText};
 ghost use Rattle.run_model.specs.Converters.{converters_of};
-ghost use Rattle.run_model.specs.Runtimes.{IsDoubt, Stepped, Stopped, calls_none, world_of};
+ghost use Rattle.run_model.specs.Runtimes.{IsDoubt, Stepped, Stopped, calls_none, runtime_at, world_of};
 ghost use Rattle.run_model.specs.Turns.{IsBlamed};
 ghost use Rattle.run_model.specs.Worlds.{Doubt};
 ghost use Rattle.per_runtime.specs.Commands.{CallsDevice, IsCommand};
@@ -61,12 +61,12 @@ impl Runtime {
         // (`Stopped`).
         ensures stepped { IsTrue D.told → IfOk result (λ reply. (doubt : Option Doubt)
             → IsDoubt (memory_of self.old) doubt
-            → Stepped (converters_of migrations.now) event.now reply (memory_of self.old)
-            (memory_of self.new) doubt
-            (D.medium disk.old) (D.medium disk.new)) }
+            → Stepped (converters_of migrations.now) event.now reply doubt
+            (runtime_at (memory_of self.old) (D.medium disk.old))
+            (runtime_at (memory_of self.new) (D.medium disk.new))) }
         ensures stopped { IsTrue D.told → OnErr result ((doubt : Option Doubt) → IsDoubt (memory_of self.old) doubt
-            → Stopped (converters_of migrations.now) event.now (memory_of self.old) doubt
-            (D.medium disk.old) (D.medium disk.new)) }
+            → Stopped (converters_of migrations.now) event.now doubt
+            (runtime_at (memory_of self.old) (D.medium disk.old)) (D.medium disk.new)) }
 
         // Memory runs out only for a command that may need it: any other is answered, refused or not, also where no
         // memory is left.

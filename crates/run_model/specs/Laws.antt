@@ -1,4 +1,4 @@
--- The statements of the laws. `rules` and `answers` are the stored converters and what they may answer; `w` is a world
+-- The statements of the laws. `converters` are the stored converters and what they may answer; `w` is a world
 -- before a command and `w'` the one after it; `old`, `now` and `new` are what the model knows of the disk at moments
 -- one after another; `ds` is what is on the disk of each application, `d` a doubt and `c` a call or a case of a crash.
 -- `app`, `other`, `a` and `b` are numbers of applications, `e` is a command, `reply` its answer, and `f` a storage that
@@ -31,11 +31,11 @@ use Rattle.run_model.specs.KeepLaws.{StaysOnTheWay}
 use Rattle.run_model.specs.Starting.{OpenedUpTo}
 use Rattle.run_model.specs.Found.{FoundStorage, storage_in, with_storage_state}
 use Rattle.run_model.specs.Calls.{session_at}
-use Rattle.run_model.specs.Worlds.{Disks, Doubt, World, disks, disk_at, app_of, world_at, after_start, without_doubt}
+use Rattle.run_model.specs.Worlds.{Disks, Doubt, World, disks, disk_at, app_of, without_doubt}
 use Rattle.run_model.specs.Steps.{Step, StepsTo, SyncFails, FailsElsewhere, calls_device, root_opened, device_storage}
 use Rattle.run_model.specs.Lasting.{IsWorld}
 use Rattle.run_model.specs.LastingLaws.{AreSeenAgain, synchronises, IsReadBeside}
-use Rattle.run_model.specs.Runtimes.{Memory, world_of, Stepped, Stopped, Starts, StartKeeps}
+use Rattle.run_model.specs.Runtimes.{Memory, world_of, Stepped, Stopped, Starts, StartKeeps, runtime_at}
 use Rattle.run_model.specs.Endings.{Ending, HasStarted, HasEnded}
 use Rattle.run_model.specs.Turns.{Turn, turn, replies_text, IsBlamed, AreBlamed}
 use Rattle.run_model.specs.Runs.{DiskSide}
@@ -135,7 +135,8 @@ OpensAsEitherLaw = (app g bank version : ℕ) (s : StorageData) (v : View) (othe
 
 -- a command that calls no disk keeps each application
 abbrev pub IdleKeepsLaw : Medium → Type 0
-IdleKeepsLaw m = (app : ℕ) (w w' : World) → app < 8 → IsDiskOf app (disks w) m → disks w' ≡ disks w → w'.doubt ≡ w.doubt
+IdleKeepsLaw m = (app : ℕ) (w w' : World) → app < 8 → IsDiskOf app (disks w) m → disks w' ≡ disks w → w'.doubt
+    ≡ w.doubt
     → StepKeeps app w w' m m
 
 -- a command in a doubt whose sync failed keeps each application
@@ -175,7 +176,8 @@ RootThenLaw old now new = (app : ℕ) (before opened after : Disks) → IsLater 
 abbrev pub CallKeepsLaw : (old new : Medium) → Type 0
 CallKeepsLaw old new = (a app : ℕ) (w w' : World) → app < 8 → Calls a (disks w') old new
     → ((b : ℕ) → a ≢ b → disk_at (disks w') b ≡ disk_at (disks w) b)
-    → w.doubt ≡ None → w'.doubt ≡ None → (IsCleanApp a old.image → IsCleanApp a new.image) → IsDiskOf app (disks w) old
+    → w.doubt ≡ None → w'.doubt ≡ None → (IsCleanApp a old.image → IsCleanApp a new.image)
+    → IsDiskOf app (disks w) old
     → StepKeeps app w w' old new
 
 -- A command whose device failed keeps each application: the world after it is in doubt between what was and what the
@@ -191,7 +193,8 @@ CallFailsLaw old new = (a app : ℕ) (w w' : World) (d : Doubt) → app < 8 → 
 abbrev pub FailureKeepsLaw : (old new : Medium) → Type 0
 FailureKeepsLaw old new = (app : ℕ) (w w' : World) (d : Doubt) → w'.doubt ≡ Some d → d.before ≡ disks w
     → Elapses old new → IsDiskOf app (disks w) old
-    → new.now d.case → d.case.left ≡ new.image → (IsReady app w old → EachCase (Between app (disks w) d.after) old new)
+    → new.now d.case → d.case.left ≡ new.image
+    → (IsReady app w old → EachCase (Between app (disks w) d.after) old new)
     → StepKeeps app w w' old new
 
 -- ---- the start
@@ -238,7 +241,7 @@ BlamedLaw = (before : ℕ) (ts : List Turn) (t : Turn) (after : ℕ) → AreBlam
 -- a start that ended is a run without a command
 abbrev pub RunBeginsLaw : Converters → (old new : Medium) → Type 0
 RunBeginsLaw converters old new = (memory : Memory) → Elapses old new → Starts memory old new
-    → Going converters (world_at old.image) (after_start (world_at old.image)) [] memory None old new
+    → Going converters old [] None (runtime_at memory new)
 
 -- a start that did not end is a run that ended there, before any line was taken
 abbrev pub StartStopsLaw : Converters → (old new : Medium) → Type 0
@@ -253,18 +256,16 @@ StartStopsLaw converters old new = (ending : Ending) (before after : Option (Lis
 abbrev pub RunGoesOnLaw : Converters → (old now new : Medium) → Type 0
 RunGoesOnLaw converters old now new = (turns : List Turn) (e : Event) (reply : Reply) (memory memory' : Memory)
     (doubt : Option Doubt) → Elapses now new
-    → Going converters (world_at old.image) (after_start (world_at old.image)) turns memory doubt old now
-    → (s : Stepped converters e reply memory memory' doubt now new)
-    → Going converters (world_at old.image) (after_start (world_at old.image))
-    (turns ++ turn e reply new (world_of new.image memory' s.doubt') ∷ []) memory' s.doubt' old new
+    → Going converters old turns doubt (runtime_at memory now)
+    → (s : Stepped converters e reply doubt (runtime_at memory now) (runtime_at memory' new))
+    → Going converters old (turns ++ turn e reply new (world_of new.image memory' s.doubt') ∷ []) s.doubt'
+    (runtime_at memory' new)
 
 -- where every command has ended, all that a run promises of the disk follows
 abbrev pub RunEndsLaw : Converters → (old now : Medium) → Type 0
 RunEndsLaw converters old now = (ending : Ending) (lines all : List (List ℕ)) (turns : List Turn)
     (before after : Option (List ℕ)) (memory : Memory) (doubt : Option Doubt)
-    → HasStarted ending → Going converters (world_at old.image)
-    (after_start (world_at old.image)) turns memory doubt old
-    now
+    → HasStarted ending → Going converters old turns doubt (runtime_at memory now)
     → DiskSide converters ending
     (record { lines = lines; all = all; turns = turns; before = before; now = after }) old now
 
@@ -275,7 +276,7 @@ RunStopsLaw converters old now new = (ending : Ending) (lines all others : List 
     (turns : List Turn) (before after : Option (List ℕ)) (e : Event)
     (memory : Memory) (doubt : Option Doubt) → Elapses now new → HasStarted ending → ¬ (HasEnded ending)
     → Appends before after (replies_text turns) → all ≡ lines ++ text ∷ others → IsLine text (line.Event e)
-    → Going converters (world_at old.image) (after_start (world_at old.image)) turns memory doubt old now
-    → Stopped converters e memory doubt now new
+    → Going converters old turns doubt (runtime_at memory now)
+    → Stopped converters e doubt (runtime_at memory now) new
     → DiskSide converters ending
     (record { lines = lines; all = all; turns = turns; before = before; now = after }) old new

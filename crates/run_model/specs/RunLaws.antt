@@ -40,7 +40,7 @@ use Rattle.run_model.specs.Steps.{calls_device, doubt_after}
 use Rattle.run_model.specs.MomentLaws.{last_is, start_stays, step_stays, end_stays, stop_stays, sound_front}
 use Rattle.run_model.specs.KeepLaws.{rests}
 use Rattle.run_model.specs.Runtimes.{Running, Memory, with_disk, world_of, StepsOn, Stepped, Stopped, Starts}
-use Rattle.run_model.specs.Runtimes.{StartKeeps, IsUnwritten}
+use Rattle.run_model.specs.Runtimes.{StartKeeps, IsUnwritten, RuntimeAt, runtime_at, world_in}
 use Rattle.run_model.specs.Starting.{at_entry}
 use Rattle.run_model.specs.Bounds.{AreBounded, IsBounded, IsBegunWithin, StartsWithin, bytes_after}
 use Rattle.run_model.specs.Endings.{Ending, HasStarted, HasEnded, has_started}
@@ -73,28 +73,37 @@ blamed_on before (u ∷ us) t after blamed cause = (blamed.0, blamed_on u.faults
 
 -- ---- what is said of a run so far
 
--- A run so far, with no command in progress: its start led from the world `entry` to `start`, and these turns, each a
--- command with its reply and the world after it, led on to what the disk, this memory and this doubt are now.
-pub record Going (converters : Converters) (entry start : World) (turns : List Turn) (memory : Memory)
-    (doubt : Option Doubt) (old now : Medium) : Type 0 where
-  pub eight : length memory.apps ≡ 8
+-- the world once a run on this disk has started
+abbrev pub started_on : Medium → World
+started_on old = after_start (world_at old.image)
+
+start_calm : (m : Medium) → (started_on m).doubt ≡ None
+unfolding world_at
+start_calm m = refl
+
+-- A run so far from the disk `old`, with no command in progress: its start led from what was there to the applications
+-- at rest, and these turns, each a command with its reply and the world after it, led on to the runtime `now`, in this
+-- doubt.
+pub record Going (converters : Converters) (old : Medium) (turns : List Turn) (doubt : Option Doubt)
+    (now : RuntimeAt Medium) : Type 0 where
+  pub eight : length now.memory.apps ≡ 8
   -- each reply and each world is the specified one, and the last world is what is there now
-  pub follow : Follow converters start turns
-  pub worlds : AllByRecursion IsWorld (start ∷ worlds_of turns)
-  pub last : last_of start (worlds_of turns) ≡ world_of now.image memory doubt
+  pub follow : Follow converters (started_on old) turns
+  pub worlds : AllByRecursion IsWorld (started_on old ∷ worlds_of turns)
+  pub last : last_of (started_on old) (worlds_of turns) ≡ world_in now doubt
   -- a doubt has a case of the disk since the start, and what reads then gave; without one nothing is pending
-  pub cases : AreCases (IsReadSince old now) (worlds_of turns)
-  pub quiet : doubt ≡ None → Quiet now
+  pub cases : AreCases (IsReadSince old now.disk) (worlds_of turns)
+  pub quiet : doubt ≡ None → Quiet now.disk
   -- each application is what some image denotes, and each moment so far is one of the start or of a command
-  pub imaged : (app : ℕ) → app < 8 → AreImaged app (start ∷ worlds_of turns)
+  pub imaged : (app : ℕ) → app < 8 → AreImaged app (started_on old ∷ worlds_of turns)
   pub stayed : (app : ℕ) → app < 8 → IsCleanApp app old.image → AreSoundDoubts app (worlds_of turns)
-      → Stayed app entry start (worlds_of turns) old now
+      → Stayed app (world_at old.image) (started_on old) (worlds_of turns) old now.disk
   -- what each command wrote, from the bytes that the start left on
   pub begun : DiskBytes
   pub starts : StartsWithin (bytes_now old) begun
-  pub bounded : AreBounded converters start begun turns
-  pub held : bytes_now now ≡ bytes_after begun turns
-  pub time : Elapses old now
+  pub bounded : AreBounded converters (started_on old) begun turns
+  pub held : bytes_now now.disk ≡ bytes_after begun turns
+  pub time : Elapses old now.disk
 
 -- ---- what applications came from
 
@@ -112,7 +121,8 @@ side_as : (app : ℕ) (w v : World) → w ≡ v → IsSideImaged app v.doubt →
 side_as app w v same is = subst (λ (x : World). IsSideImaged app x.doubt) (sym same) is
 
 side_imaged : (converters : Converters) (app : ℕ) (w : World) (e : Event) (reply : Reply) (w' : World)
-    (old new : Medium) → IsWorldImaged app w → StepsOn converters w e reply w' old new → IsSideImaged app w'.doubt
+    (old new : Medium) → IsWorldImaged app w → StepsOn converters w e reply w' (OnlyReads old new)
+    → IsSideImaged app w'.doubt
 side_imaged converters app w (event.Now t) reply w' old new is (inl step) =
     side_as app w' (record w { now = t }) step.1 is.1
 side_imaged converters app w (event.App b c) reply w' old new is (inl step) =
@@ -171,7 +181,7 @@ exit_clean laws app w none next old new is clean at_exit c now left passes = ⊎
 
 -- whatever else is known of the disk, it is a step
 steps_on : (converters : Converters) (w : World) (e : Event) (reply : Reply) (w' : World)
-    (old new : Medium) → StepsOn converters w e reply w' old new
+    (old new : Medium) → StepsOn converters w e reply w' (OnlyReads old new)
     → StepsTo converters w e reply w'
 steps_on converters w e reply w' old new (inl step) = inl step
 steps_on converters w e reply w' old new (inr (inl fails)) = inr (inl fails.0)
@@ -214,7 +224,8 @@ case_last P w (u ∷ us) is are = case_last P u us are.0 are.1
 new_case : (P Q : Case → Type 0) (doubt doubt' : Option Doubt) → ((c : Case) → P c → Q c) → IsCaseOfDoubt P doubt
     → ((d : Doubt) → doubt' ≡ Some d → (doubt ≡ Some d) ⊎ Q d.case) → IsCaseOfDoubt Q doubt'
 new_case P Q doubt None more is new = tt
-new_case P Q doubt (Some d) more is new = ⊎_elim (λ same. more d.case (subst (λ x. IsCaseOfDoubt P x) same is)) (λ q. q)
+new_case P Q doubt (Some d) more is new = ⊎_elim (λ same. more d.case (subst (λ x. IsCaseOfDoubt P x) same is))
+    (λ q. q)
     (new d refl)
 
 -- what was read since an earlier moment stays so
@@ -245,18 +256,28 @@ bounded_on converters w b (u ∷ us) t are is = (are.0, bounded_on converters u.
 same_bytes : (old new : Medium) → IsUnwritten old new → bytes_now new ≡ bytes_now old
 same_bytes old new is = ap₂ (λ (i : Image) (n : ℕ). record { image = i; written = n }) is.0 is.1
 
-module _ (converters : Converters) (entry start : World) (calm : start.doubt ≡ None) where
+module _ (converters : Converters) (old : Medium) where
+  abbrev entry : World
+  entry = world_at old.image
+
+  abbrev start : World
+  start = started_on old
+
+  calm : start.doubt ≡ None
+  calm = start_calm old
+
   -- the command that was answered, from the last world
   bounded_here : (turns : List Turn) (e : Event) (reply : Reply) (memory memory' : Memory) (doubt : Option Doubt)
-      (old now new : Medium) → Elapses now new
-      → (going : Going converters entry start turns memory doubt old now)
-      → Stepped converters e reply memory memory' doubt now new
+      (now new : Medium) → Elapses now new
+      → (going : Going converters old turns doubt (runtime_at memory now))
+      → Stepped converters e reply doubt (runtime_at memory now) (runtime_at memory' new)
       → IsBounded converters (last_of start (worlds_of turns)) e (Some reply) (bytes_after going.begun turns)
       (bytes_now new)
-  bounded_here turns e reply memory memory' doubt old now new time going s =
+  bounded_here turns e reply memory memory' doubt now new time going s =
       subst (λ (w : World). IsBounded converters w e (Some reply) (bytes_after going.begun turns) (bytes_now new))
       (sym going.last)
-      (subst (λ (b : DiskBytes). IsBounded converters (world_of now.image memory doubt) e (Some reply) b (bytes_now new))
+      (subst (λ (b : DiskBytes). IsBounded converters (world_of now.image memory doubt) e (Some reply) b
+      (bytes_now new))
       going.held (record {
         elsewhere = s.aside.elsewhere;
         place = s.place;
@@ -268,11 +289,11 @@ module _ (converters : Converters) (entry start : World) (calm : start.doubt ≡
       }))
 
   -- and one in progress
-  begun_here : (turns : List Turn) (e : Event) (memory : Memory) (doubt : Option Doubt) (old now new : Medium)
-      → Elapses now new → (going : Going converters entry start turns memory doubt old now)
-      → Stopped converters e memory doubt now new
+  begun_here : (turns : List Turn) (e : Event) (memory : Memory) (doubt : Option Doubt) (now new : Medium)
+      → Elapses now new → (going : Going converters old turns doubt (runtime_at memory now))
+      → Stopped converters e doubt (runtime_at memory now) new
       → IsBegunWithin converters (last_of start (worlds_of turns)) e (bytes_after going.begun turns) (bytes_now new)
-  begun_here turns e memory doubt old now new time going s =
+  begun_here turns e memory doubt now new time going s =
       subst (λ (w : World). IsBegunWithin converters w e (bytes_after going.begun turns) (bytes_now new))
       (sym going.last)
       (subst (λ (b : DiskBytes). IsBegunWithin converters (world_of now.image memory doubt) e b (bytes_now new))
@@ -287,12 +308,12 @@ module _ (converters : Converters) (entry start : World) (calm : start.doubt ≡
       }))
 
   pub goes_on : (turns : List Turn) (e : Event) (reply : Reply) (memory memory' : Memory) (doubt : Option Doubt)
-      (told : Bool) (old now new : Medium) → IsTrue told
-      → IsLawful told new → Elapses now new → Going converters entry start turns memory doubt old now
-      → (s : Stepped converters e reply memory memory' doubt now new)
-      → Going converters entry start (turns ++ turn e reply new (world_of new.image memory' s.doubt') ∷ []) memory'
-      s.doubt' old new
-  goes_on turns e reply memory memory' doubt told old now new tells lawful time going s =
+      (told : Bool) (now new : Medium) → IsTrue told
+      → IsLawful told new → Elapses now new → Going converters old turns doubt (runtime_at memory now)
+      → (s : Stepped converters e reply doubt (runtime_at memory now) (runtime_at memory' new))
+      → Going converters old (turns ++ turn e reply new (world_of new.image memory' s.doubt') ∷ []) s.doubt'
+      (runtime_at memory' new)
+  goes_on turns e reply memory memory' doubt told now new tells lawful time going s =
       let w' : World = world_of new.image memory' s.doubt' in
       let t : Turn = turn e reply new w' in
       record {
@@ -314,7 +335,8 @@ module _ (converters : Converters) (entry start : World) (calm : start.doubt ≡
             (subst (λ (w : World). IsCaseOfDoubt (IsReadSince old now) w.doubt) going.last
             (case_last (IsReadSince old now) start (worlds_of turns)
             (subst (λ d. IsCaseOfDoubt (IsReadSince old now) d) (sym calm) tt) going.cases))
-            (λ d is. ⊎_elim (λ same. inl same) (λ at. inr (read_now told old now new tells lawful going.time time d.case
+            (λ d is. ⊎_elim (λ same. inl same)
+            (λ at. inr (read_now told old now new tells lawful going.time time d.case
             at.0 at.1)) (s.case d is))));
         quiet = s.quiet;
         imaged = λ app lt.
@@ -341,17 +363,17 @@ module _ (converters : Converters) (entry start : World) (calm : start.doubt ≡
         begun = going.begun;
         starts = going.starts;
         bounded = bounded_on converters start going.begun turns t going.bounded
-            (bounded_here turns e reply memory memory' doubt old now new time going s);
+            (bounded_here turns e reply memory memory' doubt now new time going s);
         held = sym (after_on going.begun turns t);
         time = elapses_on going.time time;
       }
 
   -- ---- the end of a run in which every command has ended
 
-  disk_of : (turns : List Turn) (memory : Memory) (doubt : Option Doubt) (old now : Medium)
-      → Going converters entry start turns memory doubt old now → (app : ℕ) → app < 8
+  disk_of : (turns : List Turn) (memory : Memory) (doubt : Option Doubt) (now : Medium)
+      → Going converters old turns doubt (runtime_at memory now) → (app : ℕ) → app < 8
       → app_at now.image app ≡ disk_at (disks (last_of start (worlds_of turns))) app
-  disk_of turns memory doubt old now going app lt = let less : app < length memory.apps =
+  disk_of turns memory doubt now going app lt = let less : app < length memory.apps =
       omega (arith, lt, going.eight) in
       sym (ap (λ (w : World). disk_at (disks w) app) going.last
       ∙ (disk_there (app_at now.image) 0 memory.apps app less ∙ ap (app_at now.image) (omega arith)))
@@ -366,37 +388,36 @@ module _ (converters : Converters) (entry start : World) (calm : start.doubt ≡
 
   -- the start is the first stretch of the run
   from_start : (app : ℕ) (worlds : List World) (next : Disks) (c : Case)
-      → (old : Medium)
       → OrBefore old (λ c. Between app (disks entry) (disks start) c ⊎ IsMomentOf app start worlds next c) c
       → OrBefore old (IsMomentOf app entry (start ∷ worlds) next) c
-  from_start app worlds next c old m = ⊎_elim (λ before. inl before)
+  from_start app worlds next c m = ⊎_elim (λ before. inl before)
       (λ s. inr (⊎_elim (λ b. inl (subst (λ d. AtMoment app (disks entry) (disks start) d c) (sym calm) b))
       (λ x. inr x) s)) m
 
   decided_start : (app : ℕ) → IsDecided app start.doubt
   decided_start app = subst (λ d. IsDecided app d) (sym calm) tt
 
-  pub ends_everywhen : AppLaws → (turns : List Turn) (memory : Memory) (doubt : Option Doubt) (old now : Medium)
-      → Going converters entry start turns memory doubt old now
-      → Everywhen entry (start ∷ worlds_of turns) (disks (last_of start (worlds_of turns))) old now
-  ends_everywhen laws turns memory doubt old now going = record {
-    always = λ app lt clean sound c s. from_start app (worlds_of turns) (disks (last_of start (worlds_of turns)))
-        c old
+  pub ends_everywhen : AppLaws → (turns : List Turn) (memory : Memory) (doubt : Option Doubt) (now : Medium)
+      → Going converters old turns doubt (runtime_at memory now)
+      → Everywhen (world_at old.image) (started_on old ∷ worlds_of turns)
+      (disks (last_of (started_on old) (worlds_of turns))) old now
+  ends_everywhen laws turns memory doubt now going = record {
+    always = λ app lt clean sound c s. from_start app (worlds_of turns) (disks (last_of start (worlds_of turns))) c
         (end_stays app entry start (worlds_of turns) (disks (last_of start (worlds_of turns))) old now
         (going.stayed app lt clean sound.1) c s);
     at_exit = λ app lt clean sound c at.
         let stayed : Stayed app entry start (worlds_of turns) old now = going.stayed app lt clean sound.1 in
         inr (exit_moment laws app lt (last_of start (worlds_of turns)) (last_of start (worlds_of turns)).doubt now
         stayed.ready.clean
-        (disk_of turns memory doubt old now going app lt) stayed.ready.quiet stayed.calm c at);
+        (disk_of turns memory doubt now going app lt) stayed.ready.quiet stayed.calm c at);
     decided = λ app lt clean sound. (decided_start app, (going.stayed app lt clean sound.1).decided);
   }
 
-  pub ends_settled : (turns : List Turn) (memory : Memory) (doubt : Option Doubt) (old now : Medium)
-      → Going converters entry start turns memory doubt old now
-      → IsSettled (last_of start (worlds_of turns)) now
+  pub ends_settled : (turns : List Turn) (memory : Memory) (doubt : Option Doubt) (now : Medium)
+      → Going converters old turns doubt (runtime_at memory now)
+      → IsSettled (last_of (started_on old) (worlds_of turns)) now
   unfolding world_at
-  ends_settled turns memory doubt old now going = record {
+  ends_settled turns memory doubt now going = record {
     world = ap (λ (apps : List Application). record { now = 0; apps = apps; doubt = None })
         (subst (λ n. all_resting (app_at now.image) 0 n ≡ map (λ (a : Application). resting a.disk)
         (with_disk (app_at now.image) 0 memory.apps)) going.eight (rest_there (app_at now.image) 0 memory.apps))
@@ -407,11 +428,12 @@ module _ (converters : Converters) (entry start : World) (calm : start.doubt ≡
   -- ---- the end of a run that stopped in a command
 
   pub stops_everywhen : (turns : List Turn) (e : Event) (memory : Memory) (doubt : Option Doubt) (told : Bool)
-      (old now new : Medium) → IsLawful told new → Elapses now new
-      → Going converters entry start turns memory doubt old now → (s : Stopped converters e memory doubt now new)
-      → Everywhen entry (start ∷ worlds_of turns) s.after old new
-  stops_everywhen turns e memory doubt told old now new lawful time going s = record {
-    always = λ app lt clean sound c at. from_start app (worlds_of turns) s.after c old
+      (now new : Medium) → IsLawful told new → Elapses now new
+      → Going converters old turns doubt (runtime_at memory now)
+      → (s : Stopped converters e doubt (runtime_at memory now) new)
+      → Everywhen (world_at old.image) (started_on old ∷ worlds_of turns) s.after old new
+  stops_everywhen turns e memory doubt told now new lawful time going s = record {
+    always = λ app lt clean sound c at. from_start app (worlds_of turns) s.after c
         (stop_stays app entry start (worlds_of turns) s.after old now new going.time time
         (keeps app lt) (stayed app lt clean sound.1) c at);
     at_exit = λ app lt clean sound c at.
@@ -430,14 +452,9 @@ module _ (converters : Converters) (entry start : World) (calm : start.doubt ≡
 
 -- ---- what a run promises of the disk
 
-start_calm : (m : Medium) → (after_start (world_at m.image)).doubt ≡ None
-unfolding world_at
-start_calm m = refl
-
 -- the start is a run without a command
 pub starts_going : (converters : Converters) (memory : Memory) (old new : Medium) → Elapses old new
-    → Starts memory old new
-    → Going converters (world_at old.image) (after_start (world_at old.image)) [] memory None old new
+    → Starts memory old new → Going converters old [] None (runtime_at memory new)
 starts_going converters memory old new time s = record {
   eight = s.eight;
   follow = tt;
@@ -452,7 +469,7 @@ starts_going converters memory old new time s = record {
     ),
     tt,
   );
-  stayed = λ app lt clean sound. start_stays app (world_at old.image) (after_start (world_at old.image)) old new
+  stayed = λ app lt clean sound. start_stays app (world_at old.image) (started_on old) old new
       (start_calm old) (s.keeps.always app lt clean)
       (record { clean = s.clean app lt clean; quiet = λ none. s.quiet });
   begun = bytes_now new;
@@ -472,13 +489,12 @@ starts_going converters memory old new time s = record {
 pub steps_going : (converters : Converters) (turns : List Turn) (e : Event) (reply : Reply)
     (memory memory' : Memory) (doubt : Option Doubt) (told : Bool)
     (old now new : Medium) → IsTrue told → IsLawful told new → Elapses now new
-    → Going converters (world_at old.image) (after_start (world_at old.image)) turns memory doubt old now
-    → (s : Stepped converters e reply memory memory' doubt now new)
-    → Going converters (world_at old.image) (after_start (world_at old.image))
-    (turns ++ turn e reply new (world_of new.image memory' s.doubt') ∷ []) memory' s.doubt' old new
+    → Going converters old turns doubt (runtime_at memory now)
+    → (s : Stepped converters e reply doubt (runtime_at memory now) (runtime_at memory' new))
+    → Going converters old (turns ++ turn e reply new (world_of new.image memory' s.doubt') ∷ []) s.doubt'
+    (runtime_at memory' new)
 steps_going converters turns e reply memory memory' doubt told old now new tells lawful time going s =
-    goes_on converters (world_at old.image) (after_start (world_at old.image)) (start_calm old) turns e reply memory
-    memory' doubt told old now new tells lawful time going s
+    goes_on converters old turns e reply memory memory' doubt told now new tells lawful time going s
 
 -- a run that ended in its start
 abbrev NoneReached : List World → Type 0
@@ -499,7 +515,7 @@ start_disk laws converters how before after told old new lawful time open_end ke
   imaged = λ app lt. tt;
   settled = λ over. absurd (open_end (has_started how over));
   reached = [];
-  next = disks (after_start (world_at old.image));
+  next = disks (started_on old);
   begun = bytes_now new;
   starts = record {
     roots = keeps.roots;
@@ -512,7 +528,8 @@ start_disk laws converters how before after told old new lawful time open_end ke
   progress = starting open_end refl refl refl refl refl refl;
   clean = λ app lt clean calm. begun_clean app lt clean;
   everywhen = record {
-    always = λ app lt clean calm c s. ⊎_elim (λ before. inl before) (λ b. inr (inl b)) (keeps.always app lt clean c s);
+    always = λ app lt clean calm c s. ⊎_elim (λ before. inl before) (λ b. inr (inl b))
+        (keeps.always app lt clean c s);
     at_exit = λ app lt clean calm. left app lt clean;
     decided = λ app lt clean calm. tt;
   };
@@ -520,7 +537,7 @@ start_disk laws converters how before after told old new lawful time open_end ke
   where
     left : (app : ℕ) → app < 8 → IsCleanApp app old.image → (c : Case) → new.now c
         → (NoneReached [] × OnlyReads old new)
-        ⊎ IsMomentOf app (world_at old.image) [] (disks (after_start (world_at old.image))) c
+        ⊎ IsMomentOf app (world_at old.image) [] (disks (started_on old)) c
     left app lt clean c at = ⊎_elim (λ reads. inl (refl, reads)) (λ each. inr (inl (each app lt clean c at)))
         keeps.at_exit
 
@@ -529,14 +546,14 @@ start_disk laws converters how before after told old new lawful time open_end ke
     begun_clean app lt clean (all_ended over) = absurd (open_end (has_started how over))
     begun_clean app lt clean (none_written begun same) = absurd (open_end begun)
     begun_clean app lt clean (sound_reads c now is passes) = exit_clean laws app (world_at old.image) (NoneReached [])
-        (disks (after_start (world_at old.image))) old new (entry_imaged app lt old.image) clean
+        (disks (started_on old)) old new (entry_imaged app lt old.image) clean
         (left app lt clean) c now is passes
 
 -- one where every command has ended
 pub ends_disk : AppLaws → (converters : Converters) (ending : Ending) (lines all : List (List ℕ))
     (turns : List Turn) (before after : Option (List ℕ))
     (memory : Memory) (doubt : Option Doubt) (old now : Medium) → HasStarted ending
-    → Going converters (world_at old.image) (after_start (world_at old.image)) turns memory doubt old now
+    → Going converters old turns doubt (runtime_at memory now)
     → DiskSide converters ending
     (record { lines = lines; all = all; turns = turns; before = before; now = after }) old now
 ends_disk laws converters _ lines all turns before after memory doubt old now started_well going = record {
@@ -544,17 +561,15 @@ ends_disk laws converters _ lines all turns before after memory doubt old now st
   worlds = going.worlds;
   cases = going.cases;
   imaged = going.imaged;
-  settled = λ over. ends_settled converters (world_at old.image) (after_start (world_at old.image)) (start_calm old)
-      turns memory doubt old now going;
-  reached = after_start (world_at old.image) ∷ worlds_of turns;
-  next = disks (last_of (after_start (world_at old.image)) (worlds_of turns));
+  settled = λ over. ends_settled converters old turns memory doubt now going;
+  reached = started_on old ∷ worlds_of turns;
+  next = disks (last_of (started_on old) (worlds_of turns));
   begun = going.begun;
   starts = going.starts;
   bounded = going.bounded;
   progress = between started_well refl refl going.held;
   clean = λ app lt clean calm end. (going.stayed app lt clean calm).ready.clean;
-  everywhen = ends_everywhen converters (world_at old.image) (after_start (world_at old.image)) (start_calm old) laws
-      turns memory doubt old now going;
+  everywhen = ends_everywhen converters old laws turns memory doubt now going;
 }
 
 -- one that stopped in a command
@@ -563,9 +578,8 @@ pub stops_disk : AppLaws → (converters : Converters) (ending : Ending) (lines 
     (e : Event) (memory : Memory) (doubt : Option Doubt) (told : Bool) (old now new : Medium) → IsLawful told new
     → Elapses now new → HasStarted ending
     → ¬ (HasEnded ending) → Appends before after (replies_text turns) → all ≡ lines ++ text ∷ others
-    → IsLine text (line.Event e) → Going converters (world_at old.image) (after_start (world_at old.image)) turns
-    memory doubt old now
-    → Stopped converters e memory doubt now new → DiskSide converters ending
+    → IsLine text (line.Event e) → Going converters old turns doubt (runtime_at memory now)
+    → Stopped converters e doubt (runtime_at memory now) new → DiskSide converters ending
     (record { lines = lines; all = all; turns = turns; before = before; now = after }) old new
 stops_disk laws converters ending lines all others text turns before after e memory doubt told old now new lawful
     time started_well open_end wrote is_next spelled going s = record {
@@ -576,7 +590,7 @@ stops_disk laws converters ending lines all others text turns before after e mem
           going.cases;
       imaged = going.imaged;
       settled = λ over. absurd (open_end over);
-      reached = after_start (world_at old.image) ∷ worlds_of turns;
+      reached = started_on old ∷ worlds_of turns;
       next = s.after;
       begun = going.begun;
       starts = going.starts;
@@ -588,21 +602,18 @@ stops_disk laws converters ending lines all others text turns before after e mem
         is_next = is_next;
         spelled = spelled;
         leads = subst (λ w. Leads converters w e s.after) (sym going.last) s.leads;
-        bounded = begun_here converters (world_at old.image) (after_start (world_at old.image))
-            (start_calm old) turns e
-            memory doubt old now new time going s;
+        bounded = begun_here converters old turns e memory doubt now new time going s;
       });
       clean = λ app lt clean calm. stopped_clean app lt clean calm;
       everywhen = every;
     }
   where
-    every : Everywhen (world_at old.image) (after_start (world_at old.image) ∷ worlds_of turns) s.after old new
-    every = stops_everywhen converters (world_at old.image) (after_start (world_at old.image)) (start_calm old)
-        turns e memory doubt told old now new lawful time going s
+    every : Everywhen (world_at old.image) (started_on old ∷ worlds_of turns) s.after old new
+    every = stops_everywhen converters old turns e memory doubt told now new lawful time going s
 
     imaged : (app : ℕ) → app < 8
-        → IsWorldImaged app (last_of (after_start (world_at old.image)) (worlds_of turns))
-    imaged app lt = imaged_last app (after_start (world_at old.image)) (worlds_of turns) (going.imaged app lt).0
+        → IsWorldImaged app (last_of (started_on old) (worlds_of turns))
+    imaged app lt = imaged_last app (started_on old) (worlds_of turns) (going.imaged app lt).0
         (going.imaged app lt).1
 
     stopped_clean : (app : ℕ) → app < 8 → IsCleanApp app old.image → AreSoundDoubts app (worlds_of turns)
@@ -612,7 +623,7 @@ stops_disk laws converters ending lines all others text turns before after e mem
         subst (λ (i : Image). IsCleanApp app i) (sym (ap (λ (b : DiskBytes). b.image) (same ∙ sym going.held)))
         (going.stayed app lt clean calm).ready.clean
     stopped_clean app lt clean calm (sound_reads c at is passes) = exit_clean laws app
-        (last_of (after_start (world_at old.image)) (worlds_of turns))
-        (NoneReached (after_start (world_at old.image) ∷ worlds_of turns)) s.after old new (imaged app lt) clean
+        (last_of (started_on old) (worlds_of turns))
+        (NoneReached (started_on old ∷ worlds_of turns)) s.after old new (imaged app lt) clean
         (every.at_exit app lt clean
         (subst (λ (d : Option Doubt). IsSoundDoubt app d) (sym (start_calm old)) tt, calm)) c at is passes

@@ -9,10 +9,9 @@ use Rattle.command_text.specs.declared.errors.LineError.{LineError}
 use Rattle.command_text.specs.declared.lines.Line.{Line}
 use Rattle.command_text.specs.declared.lines.Line.TheVariants as line
 use Rattle.run_model.specs.Converters.{Converters}
-use Rattle.run_model.specs.Runtimes.{Memory, world_of}
+use Rattle.run_model.specs.Runtimes.{Memory, world_of, runtime_at}
 use Rattle.per_runtime.specs.Needs.{CommandMayStarve}
 use Rattle.per_run.specs.Needs.{HandlingMayStarve, ReplyMayStarve}
-use Rattle.per_run.specs.Steps.{runtime_at}
 use Rattle.per_run.proofs.Gives.{front_bad, front_says}
 use Rattle.per_run.proofs.Courses.{course_end, course_memory, course_refused, handled_nothing}
 use Rattle.per_run.proofs.reader.handle_text.Goals as goal
@@ -40,13 +39,16 @@ returns-in-Ok-Nothing-clause-goes_on g c = λ start before lines whole front han
 pub returns-in-Ok-Event-clause-goes_on : goal.returns-in-Ok-Event-clause-goes_on
 returns-in-Ok-Event-clause-goes_on g c = on_ok_weaker c.handle_event-handled.result
     (λ handles start before lines whole front handled. handles start before lines whole
-    (says _ whole _ (line.Event c.in-Ok-Event.event) c.in-Ok-Event.field-0-is front c.in-Ok-Event.ensures.line) handled)
+    (says _ whole _ (line.Event c.in-Ok-Event.event) c.in-Ok-Event.field-0-is front c.in-Ok-Event.ensures.line)
+    handled)
     c.handle_event-handled.ensures.goes_on
 
 pub returns-in-Ok-Event-clause-ends : goal.returns-in-Ok-Event-clause-ends
 returns-in-Ok-Event-clause-ends g c = IfErr-weaker c.handle_event-handled.result _ _
-    (λ ending ends laws start before lines others whole front number handled. ends laws start before lines others whole
-    (says _ whole _ (line.Event c.in-Ok-Event.event) c.in-Ok-Event.field-0-is front c.in-Ok-Event.ensures.line) handled)
+    (λ ending ends laws start before lines others whole front number handled. ends laws start before lines others
+    whole
+    (says _ whole _ (line.Event c.in-Ok-Event.event) c.in-Ok-Event.field-0-is front c.in-Ok-Event.ensures.line)
+    handled)
     c.handle_event-handled.ensures.ends
 
 pub returns-in-Ok-End-clause-ends : goal.returns-in-Ok-End-clause-ends
