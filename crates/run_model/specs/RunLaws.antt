@@ -263,9 +263,6 @@ module _ (converters : Converters) (old : Medium) where
   abbrev start : World
   start = started_on old
 
-  calm : start.doubt ≡ None
-  calm = start_calm old
-
   -- the command that was answered, from the last world
   bounded_here : (turns : List Turn) (e : Event) (reply : Reply) (memory memory' : Memory) (doubt : Option Doubt)
       (now new : Medium) → Elapses now new
@@ -334,7 +331,7 @@ module _ (converters : Converters) (old : Medium) where
             (new_case (IsReadSince old now) (IsReadSince old new) doubt s.doubt' (read_on old now new going.time time)
             (subst (λ (w : World). IsCaseOfDoubt (IsReadSince old now) w.doubt) going.last
             (case_last (IsReadSince old now) start (worlds_of turns)
-            (subst (λ d. IsCaseOfDoubt (IsReadSince old now) d) (sym calm) tt) going.cases))
+            (subst (λ d. IsCaseOfDoubt (IsReadSince old now) d) (sym (start_calm old)) tt) going.cases))
             (λ d is. ⊎_elim (λ same. inl same)
             (λ at. inr (read_now told old now new tells lawful going.time time d.case
             at.0 at.1)) (s.case d is))));
@@ -355,7 +352,7 @@ module _ (converters : Converters) (old : Medium) where
             let sound' : AreSoundDoubts app (worlds_of turns ++ w' ∷ []) =
             subst (λ ws. AreSoundDoubts app ws) (worlds_on turns t) sound in
             subst (λ ws. Stayed app entry start ws old new) (sym (worlds_on turns t))
-            (step_stays app entry start (worlds_of turns) w' old now new calm going.time time s.quiet
+            (step_stays app entry start (worlds_of turns) w' old now new (start_calm old) going.time time s.quiet
             (λ d is. ⊎_elim (λ same. inl (ap (λ (w : World). w.doubt) going.last ∙ same)) (λ at. inr at.0)
             (s.case d is)) sound'
             (subst (λ w. StepKeeps app w w' now new) (sym going.last) (s.keeps app lt))
@@ -391,11 +388,11 @@ module _ (converters : Converters) (old : Medium) where
       → OrBefore old (λ c. Between app (disks entry) (disks start) c ⊎ IsMomentOf app start worlds next c) c
       → OrBefore old (IsMomentOf app entry (start ∷ worlds) next) c
   from_start app worlds next c m = ⊎_elim (λ before. inl before)
-      (λ s. inr (⊎_elim (λ b. inl (subst (λ d. AtMoment app (disks entry) (disks start) d c) (sym calm) b))
+      (λ s. inr (⊎_elim (λ b. inl (subst (λ d. AtMoment app (disks entry) (disks start) d c) (sym (start_calm old)) b))
       (λ x. inr x) s)) m
 
   decided_start : (app : ℕ) → IsDecided app start.doubt
-  decided_start app = subst (λ d. IsDecided app d) (sym calm) tt
+  decided_start app = subst (λ d. IsDecided app d) (sym (start_calm old)) tt
 
   pub ends_everywhen : AppLaws → (turns : List Turn) (memory : Memory) (doubt : Option Doubt) (now : Medium)
       → Going converters old turns doubt (runtime_at memory now)

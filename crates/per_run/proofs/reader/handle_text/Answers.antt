@@ -33,7 +33,7 @@ starves told converters text before after old new event spelled (inr made) = inr
 
 pub returns-in-Ok-Nothing-clause-goes_on : goal.returns-in-Ok-Nothing-clause-goes_on
 returns-in-Ok-Nothing-clause-goes_on g c = λ start before lines whole front handled.
-    handled_nothing _ _ _ _ before g.D.Disk.medium lines _ _ _ _ _ whole handled
+    handled_nothing _ _ _ before g.D.Disk.medium lines _ _ _ _ _ whole handled
     (says _ whole _ line.Nothing c.in-Ok-Nothing.field-0-is front c.in-Ok-Nothing.ensures.line) refl refl
 
 pub returns-in-Ok-Event-clause-goes_on : goal.returns-in-Ok-Event-clause-goes_on
@@ -54,22 +54,22 @@ returns-in-Ok-Event-clause-ends g c = IfErr-weaker c.handle_event-handled.result
 pub returns-in-Ok-End-clause-ends : goal.returns-in-Ok-End-clause-ends
 returns-in-Ok-End-clause-ends g c = λ laws start before lines others whole front number handled.
     let is = says _ whole _ line.End c.in-Ok-End.field-0-is front c.in-Ok-End.ensures.line in
-    course_end _ _ _ _ before g.D.Disk.medium laws lines others _ _ _ _ whole handled is.spelled refl
+    course_end _ _ _ before g.D.Disk.medium laws lines others _ _ _ _ whole handled is.spelled refl
 
 pub returns-in-Err-NotALine-clause-ends : goal.returns-in-Err-NotALine-clause-ends
 returns-in-Err-NotALine-clause-ends g c = λ laws start before lines others whole front number handled.
     let bad = c.in-Err-NotALine.ensures.none (ap (λ (e : LineError). Err e) c.in-Err-NotALine.field-0-is) in
-    course_refused _ _ _ _ before g.D.Disk.medium laws c.refuse.result lines others _ _ _ _ _ whole c.args.number
+    course_refused _ _ _ before g.D.Disk.medium laws c.refuse.result lines others _ _ _ _ _ whole c.args.number
     handled (front_bad _ whole front bad) number c.refuse.ensures.refuses refl
 
 pub returns-in-Err-OutOfMemory-clause-ends : goal.returns-in-Err-OutOfMemory-clause-ends
 returns-in-Err-OutOfMemory-clause-ends g c = λ laws start before lines others whole front number handled.
-    course_memory _ _ _ _ before laws lines (whole ∷ others) _ _ _ _ handled (Appends-nil _)
+    course_memory _ _ _ before laws lines (whole ∷ others) _ _ _ _ handled (Appends-nil _)
 
 pub returns-in-Ok-Event-clause-needs : goal.returns-in-Ok-Event-clause-needs
 returns-in-Ok-Event-clause-needs g c = λ told starved.
     let is = subst (λ (l : Line). IsLine c.args.text.now l) c.in-Ok-Event.field-0-is c.in-Ok-Event.ensures.line in
-    starves _ _ _ c.args.text.now _ _ _ _ c.in-Ok-Event.event is
+    starves _ _ c.args.text.now _ _ _ _ c.in-Ok-Event.event is
     (c.handle_event-handled.ensures.needs told starved c.args.text.now is)
 
 pub returns-in-Err-NotALine-clause-needs : goal.returns-in-Err-NotALine-clause-needs
