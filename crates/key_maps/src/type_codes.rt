@@ -11,17 +11,29 @@ use value_model::{Node, Value, ValueType};
 
 // The first byte of the code of each type.
 const BOOL: usize = 1;
+
 const U8: usize = 2;
+
 const U16: usize = 3;
+
 const U32: usize = 4;
+
 const U64: usize = 5;
+
 const I8: usize = 6;
+
 const I16: usize = 7;
+
 const I32: usize = 8;
+
 const I64: usize = 9;
+
 const TEXT: usize = 10;
+
 const BYTES: usize = 11;
+
 const LIST: usize = 12;
+
 const FIELDS: usize = 13;
 
 /// Whether the value that the bytes encode has the type of the other one.

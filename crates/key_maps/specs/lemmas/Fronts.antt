@@ -118,8 +118,7 @@ typed_front bytes other answer small encodes valid is = by (decoded bytes) refl 
         → IsTrue answer ↔ (option_map type_of read ≡ Some (type_of other))
     by None e some = absurd cc
     by (Some t) e some =
-        let g = decoded_takes bytes t small e in
-        (
+        let g = decoded_takes bytes t small e in (
           λ holds.
               let front = found (after (type_code (type_of other)) bytes) refl holds in
               ap (λ (k : Kind). Some k) (one_type t other g.0 valid (payload t) front.0 (sym g.1 ∙ front.1)),
