@@ -1,6 +1,6 @@
 //! A value as its encoding.
 
-ghost use Rattle.std.specs.Prelude.{◌≡◌, ◌≤◌, ◌↔◌, IfOk, IsTrue, None, OnOk, Some, length, option_map};
+ghost use Rattle.std.specs.Prelude.{◌≡◌, ◌≤◌, ◌↔◌, IfOk, IfSome, IsTrue, None, OnOk, Some, length, option_map};
 ghost use Rattle.value_code.specs.Reading.{decoded, is_encoding};
 ghost use Rattle.value_model.specs.Encoding.{encoding};
 ghost use Rattle.value_model.specs.Trees.{type_of};
@@ -13,25 +13,27 @@ use std::alloc::{AllocError, Global};
 use std::cell::OnceCell;
 use std::marker::Model;
 use value_code::{decode, decoded_is_exact, encode};
-use value_model::{DecodeError, Value};
+use value_model::{DecodeError, Node, Value};
 
-/// A value, kept as its encoding, which contracts see: a tree of it takes many times the memory of its bytes, so it is
-/// made where it is asked for.
+/// A value, kept as its encoding, which contracts see: the tree of a text, of bytes, of a list or of a group may take
+/// many times the memory of its bytes, so it is made where it is asked for. A scalar keeps its tree beside the bytes.
 #[derive(Drop)]
 pub struct StoredValue {
     bytes: Bytes,
+    scalar: Option<Value>,
     lent: OnceCell<Box<Lent>>,
 }
 
 impl Model for StoredValue {
-    ghost use Rattle.std.specs.Prelude.{ℕ, List, IsTrue};
+    ghost use Rattle.std.specs.Prelude.{ℕ, List, IfSome, IsTrue};
     ghost use Rattle.value_code.specs.Reading.{is_encoding};
+    ghost use Rattle.key_maps.specs.KeyElements.{IsStoredValue};
 
     ghost Value = { List ℕ };
 
     ghost view = { λ s. s.bytes };
 
-    ghost invariant = { λ s. IsTrue (is_encoding s.bytes) };
+    ghost invariant = { λ s. IsTrue (is_encoding s.bytes) × IfSome s.scalar (λ value. IsStoredValue s.bytes value) };
 }
 
 impl StoredValue {
@@ -41,18 +43,20 @@ impl StoredValue {
     {
         let _valid = value.node();
         decoded_is_exact();
-        Ok(StoredValue::of(Bytes::new(encode(alloc, value)?)))
+        let bytes = Bytes::new(encode(alloc, value)?);
+        StoredValue::of(alloc, bytes, value)
     }
 
-    /// The bytes, which encode a value.
-    fn of(bytes: Bytes) -> StoredValue
-        requires { IsTrue (is_encoding bytes) }
-        ensures { result ≡ bytes }
+    /// The bytes, which encode this value.
+    fn of(alloc: Global, bytes: Bytes, value: &Value) -> Result<StoredValue, AllocError>
+        requires { IsStoredValue bytes value.now }
+        ensures { IfOk result (λ stored. stored ≡ bytes) }
     {
-        StoredValue {
+        Ok(StoredValue {
             bytes,
+            scalar: scalar_of(alloc, value)?,
             lent: OnceCell::new(),
-        }
+        })
     }
 
     /// A copy of the bytes, where they encode a value.
@@ -67,12 +71,12 @@ impl StoredValue {
         ensures readable { OnOk result (IsTrue (is_encoding bytes.now)) }
         ensures only { result ≡ Err DecodeError.NotAValue → decoded bytes.now ≡ None }
     {
-        drop(decode(alloc, bytes)?);
+        let value = decode(alloc, bytes)?;
         let copy = Vec::from_slice(alloc, bytes)?;
-        Ok(StoredValue::of(Bytes::new(copy)))
+        Ok(StoredValue::of(alloc, Bytes::new(copy), &value)?)
     }
 
-    /// The value, decoded; the error says that memory ran out.
+    /// The value, anew; the error says that memory ran out.
     pub fn value(&self, alloc: Global) -> Result<Value, AllocError>
         // The encoding decodes to this value, this value encodes to it, and it is a valid one.
         ensures reads { IfOk result (λ value. decoded self.now ≡ Some value) }
@@ -81,6 +85,9 @@ impl StoredValue {
         // There always is one.
         ensures readable { IsTrue (is_encoding self.now) }
     {
+        if let Some(scalar) = &self.scalar {
+            return scalar.copy(alloc);
+        }
         match decode(alloc, self.bytes.as_slice()) {
             Ok(value) => Ok(value),
             Err(_) => Err(AllocError),
@@ -96,6 +103,9 @@ impl StoredValue {
         // There always is one.
         ensures readable { IsTrue (is_encoding self.now) }
     {
+        if let Some(scalar) = &self.scalar {
+            return Ok(scalar);
+        }
         let lent = self.lent.get_or_try_init(|| Lent::new(alloc, self))?;
         if lent.as_slice() != self.bytes.as_slice() {
             return Err(AllocError);
@@ -138,10 +148,28 @@ impl StoredValue {
     }
 
     /// An equal copy.
-    pub fn copy(&self) -> Result<StoredValue, AllocError>
+    pub fn copy(&self, alloc: Global) -> Result<StoredValue, AllocError>
         ensures { IfOk result (λ copy. copy ≡ self.now) }
     {
-        Ok(StoredValue::of(self.bytes.copy()?))
+        let scalar = match &self.scalar {
+            Some(scalar) => Some(scalar.copy(alloc)?),
+            None => None,
+        };
+        Ok(StoredValue {
+            bytes: self.bytes.copy()?,
+            scalar,
+            lent: OnceCell::new(),
+        })
+    }
+}
+
+/// A copy of the value, where it is a truth value or a number.
+fn scalar_of(alloc: Global, value: &Value) -> Result<Option<Value>, AllocError>
+    ensures { IfOk result (λ scalar. IfSome scalar (λ copy. copy ≡ value.now)) }
+{
+    match value.node() {
+        Node::Text(_) | Node::Bytes(_) | Node::List(_, _) | Node::Fields(_) => Ok(None),
+        _ => Ok(Some(value.copy(alloc)?)),
     }
 }
 

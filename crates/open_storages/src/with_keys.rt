@@ -1,22 +1,19 @@
 //! The calls on keys.
 
-ghost use Rattle.std.specs.Prelude.{◌≡◌, IfErr, IfOk, Ok};
-ghost use Rattle.per_base.specs.Refusals.{IsRefusal, NeedsMemory};
-ghost use Rattle.kvs_core.specs.Calls as calls;
-ghost use Rattle.kvs_store.specs.Storages.{kvs_session, showing};
+ghost use Rattle.std.specs.Prelude.{◌≡◌, IfErr};
+ghost use Rattle.per_base.specs.Refusals.{NeedsMemory};
+ghost use Rattle.kvs_store.specs.Storages.{showing};
 ghost use Rattle.run_model.specs.Sessions.{on_keys};
 ghost use Rattle.open_storages.specs.Answers.{IsAnsweredAsRow};
 ghost use Rattle.open_storages.specs.Opens.{keys_of};
 
-use command_text::{Answer, AskedType, Call};
+use command_text::{Answer, Call};
 use kvs_store::Kvs;
-use per_base::{Name, PerError, Sequence};
-use std::alloc::Global;
-use value_model::Value;
+use per_base::{PerError, Sequence};
 
 /// Answers a call on keys.
 #[tactic(auto, using(crate::proofs::Rows::refused_then, crate::proofs::Rows::due_then, crate::proofs::Rows::answered_then), unfolding(run_model::specs::Sessions::on_keys))]
-pub(crate) fn answer_keys(kvs: &mut Kvs, alloc: Global, call: &Call) -> Result<Answer, PerError>
+pub(crate) fn answer_keys(kvs: &mut Kvs, call: &Call) -> Result<Answer, PerError>
     ensures answered { IsAnsweredAsRow (on_keys kvs.old.config (keys_of kvs.old) call.now) (keys_of kvs.old)
         (keys_of kvs.new) result }
     ensures memory { IfErr result (λ error. error ≡ PerError.OutOfMemory

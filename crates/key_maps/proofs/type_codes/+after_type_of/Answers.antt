@@ -1,5 +1,5 @@
 use Rattle.std.proofs.Common.{◌≡◌, ◌∷◌, ◌∙◌, ◌+◌, List, ℕ, drop, ap, sym, rules}
-use Rattle.std.specs.Prelude.{Option, None, option_copied}
+use Rattle.std.specs.Prelude.{None, option_copied}
 use Rattle.std.proofs.lemmas.List.{drop_more}
 use Rattle.value_model.specs.declared.nodes.Node.{Node}
 use Rattle.value_model.specs.Kinds.{type_code, type_codes}

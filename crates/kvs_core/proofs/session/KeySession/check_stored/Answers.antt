@@ -1,8 +1,5 @@
-use Rattle.std.proofs.Common.{◌≡◌, ◌∙◌, ap, subst, sym, true, Result, rules}
+use Rattle.std.proofs.Common.{◌∙◌, ap, sym}
 use Rattle.std.specs.Prelude.{Err}
-use Rattle.per_base.specs.declared.errors.PerError.{PerError}
-use Rattle.per_base.specs.Maps.{Map}
-use Rattle.per_base.specs.Refusals.{NeedsMemory}
 use Rattle.value_model.specs.Trees.{type_of}
 use Rattle.kvs_core.proofs.Contents.{other_typed, same_typed, typed_needs, untrue}
 use Rattle.kvs_core.proofs.session.KeySession.check_stored.Goals as goal
