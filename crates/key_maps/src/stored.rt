@@ -1,49 +1,61 @@
-//! A value beside its encoding.
+//! A value as its encoding.
 
-ghost use Rattle.std.specs.Prelude.{◌≡◌, ◌≤◌, IfOk, IsTrue, None, OnOk, Some, length};
+ghost use Rattle.std.specs.Prelude.{◌≡◌, ◌≤◌, ◌↔◌, IfOk, IsTrue, None, OnOk, Some, length, option_map};
 ghost use Rattle.value_code.specs.Reading.{decoded, is_encoding};
 ghost use Rattle.value_model.specs.Encoding.{encoding};
+ghost use Rattle.value_model.specs.Trees.{type_of};
 ghost use Rattle.value_model.specs.Validity.{IsValue};
+ghost use Rattle.key_maps.specs.KeyElements.{IsStoredValue};
 
+use crate::type_codes::has_type_of;
 use per_base::Bytes;
 use std::alloc::{AllocError, Global};
+use std::cell::OnceCell;
 use std::marker::Model;
-use value_code::{decode, decoded_is_exact, encode, encoding_lengths};
+use value_code::{decode, decoded_is_exact, encode};
 use value_model::{DecodeError, Value};
 
-/// A value and its encoding, which contracts see.
+/// A value, kept as its encoding, which contracts see: a tree of it takes many times the memory of its bytes, so it is
+/// made where it is asked for.
 #[derive(Drop)]
 pub struct StoredValue {
     bytes: Bytes,
-    value: Value,
+    lent: OnceCell<Box<Lent>>,
 }
 
 impl Model for StoredValue {
-    ghost use Rattle.std.specs.Prelude.{ℕ, List};
-    ghost use Rattle.key_maps.specs.KeyElements.{IsStoredValue};
+    ghost use Rattle.std.specs.Prelude.{ℕ, List, IsTrue};
+    ghost use Rattle.value_code.specs.Reading.{is_encoding};
 
     ghost Value = { List ℕ };
 
     ghost view = { λ s. s.bytes };
 
-    ghost invariant = { λ s. IsStoredValue s.bytes s.value };
+    ghost invariant = { λ s. IsTrue (is_encoding s.bytes) };
 }
 
 impl StoredValue {
-    /// The value with its encoding.
-    pub fn new(alloc: Global, value: Value) -> Result<StoredValue, AllocError>
-        ensures { IfOk result (λ stored. stored ≡ encoding value) }
+    /// The encoding of a value.
+    pub fn new(alloc: Global, value: &Value) -> Result<StoredValue, AllocError>
+        ensures { IfOk result (λ stored. stored ≡ encoding value.now) }
     {
         let _valid = value.node();
         decoded_is_exact();
-        let bytes = encode(alloc, &value)?;
-        Ok(StoredValue {
-            bytes: Bytes::new(bytes),
-            value,
-        })
+        Ok(StoredValue::of(Bytes::new(encode(alloc, value)?)))
     }
 
-    /// The value that the bytes encode, with them.
+    /// The bytes, which encode a value.
+    fn of(bytes: Bytes) -> StoredValue
+        requires { IsTrue (is_encoding bytes) }
+        ensures { result ≡ bytes }
+    {
+        StoredValue {
+            bytes,
+            lent: OnceCell::new(),
+        }
+    }
+
+    /// A copy of the bytes, where they encode a value.
     ///
     /// # Errors
     ///
@@ -55,22 +67,50 @@ impl StoredValue {
         ensures readable { OnOk result (IsTrue (is_encoding bytes.now)) }
         ensures only { result ≡ Err DecodeError.NotAValue → decoded bytes.now ≡ None }
     {
-        let value = decode(alloc, bytes)?;
+        drop(decode(alloc, bytes)?);
         let copy = Vec::from_slice(alloc, bytes)?;
-        Ok(StoredValue {
-            bytes: Bytes::new(copy),
-            value,
-        })
+        Ok(StoredValue::of(Bytes::new(copy)))
     }
 
-    /// The value.
-    pub fn value(&self) -> &Value
+    /// The value, decoded; the error says that memory ran out.
+    pub fn value(&self, alloc: Global) -> Result<Value, AllocError>
         // The encoding decodes to this value, this value encodes to it, and it is a valid one.
-        ensures reads { decoded self.now ≡ Some result.now }
-        ensures writes { self.now ≡ encoding result.now }
-        ensures valid { IsValue result.now }
+        ensures reads { IfOk result (λ value. decoded self.now ≡ Some value) }
+        ensures writes { IfOk result (λ value. self.now ≡ encoding value) }
+        ensures valid { IfOk result (λ value. IsValue value) }
+        // There always is one.
+        ensures readable { IsTrue (is_encoding self.now) }
     {
-        &self.value
+        match decode(alloc, self.bytes.as_slice()) {
+            Ok(value) => Ok(value),
+            Err(_) => Err(AllocError),
+        }
+    }
+
+    /// The value, lent: its tree then stays beside the bytes as long as these stay. The error says that memory ran out.
+    pub fn lend(&self, alloc: Global) -> Result<&Value, AllocError>
+        // The encoding decodes to this value, this value encodes to it, and it is a valid one.
+        ensures reads { IfOk result (λ value. decoded self.now ≡ Some value.now) }
+        ensures writes { IfOk result (λ value. self.now ≡ encoding value.now) }
+        ensures valid { IfOk result (λ value. IsValue value.now) }
+        // There always is one.
+        ensures readable { IsTrue (is_encoding self.now) }
+    {
+        let lent = self.lent.get_or_try_init(|| Lent::new(alloc, self))?;
+        if lent.as_slice() != self.bytes.as_slice() {
+            return Err(AllocError);
+        }
+        Ok(lent.value())
+    }
+
+    /// Whether the value has the type of the other one. Does not allocate.
+    pub fn has_type_of(&self, other: &Value) -> bool
+        // The type of the value is that of the other one.
+        ensures same { IsTrue result ↔ (option_map type_of (decoded self.now) ≡ Some (type_of other.now)) }
+        // There always is a value.
+        ensures readable { IsTrue (is_encoding self.now) }
+    {
+        has_type_of(self.bytes.as_slice(), other)
     }
 
     /// The encoding.
@@ -94,18 +134,51 @@ impl StoredValue {
         ensures short { result ≤ 65536 }
         ensures readable { IsTrue (is_encoding self.now) }
     {
-        let _value = self.value();
-        encoding_lengths();
         self.bytes.len() as u32
     }
 
     /// An equal copy.
-    pub fn copy(&self, alloc: Global) -> Result<StoredValue, AllocError>
+    pub fn copy(&self) -> Result<StoredValue, AllocError>
         ensures { IfOk result (λ copy. copy ≡ self.now) }
     {
-        match StoredValue::read(alloc, self.as_slice()) {
-            Ok(copy) => Ok(copy),
-            Err(_) => Err(AllocError),
-        }
+        Ok(StoredValue::of(self.bytes.copy()?))
+    }
+}
+
+/// A value that is lent, and its encoding, which contracts see.
+#[derive(Drop)]
+struct Lent {
+    bytes: Bytes,
+    value: Value,
+}
+
+impl Model for Lent {
+    ghost use Rattle.std.specs.Prelude.{ℕ, List};
+    ghost use Rattle.key_maps.specs.KeyElements.{IsStoredValue};
+
+    ghost Value = { List ℕ };
+
+    ghost view = { λ l. l.bytes };
+
+    ghost invariant = { λ l. IsStoredValue l.bytes l.value };
+}
+
+impl Lent {
+    fn new(alloc: Global, stored: &StoredValue) -> Result<Box<Lent>, AllocError> {
+        let bytes = stored.copy_bytes()?;
+        let value = stored.value(alloc)?;
+        Ok(Box::new(alloc, Lent { bytes, value })?)
+    }
+
+    fn as_slice(&self) -> &[u8]
+        ensures { result.now ≡ self.now }
+    {
+        self.bytes.as_slice()
+    }
+
+    fn value(&self) -> &Value
+        ensures { IsStoredValue self.now result.now }
+    {
+        &self.value
     }
 }

@@ -48,7 +48,7 @@ impl KeySession {
         let Some(salvage) = key.salvage() else {
             return self.restore(name);
         };
-        match salvage.copy(self.alloc) {
+        match salvage.copy() {
             Ok(salvage) => self.put(name, KeyElement::new(salvage)),
             Err(_) => Err(PerError::OutOfMemory),
         }

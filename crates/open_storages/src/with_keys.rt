@@ -27,8 +27,8 @@ pub(crate) fn answer_keys(kvs: &mut Kvs, alloc: Global, call: &Call) -> Result<A
         Call::Size(_) => Ok(Answer::Number(kvs.current_size())),
         Call::Keys(_) => Ok(Answer::Names(Sequence::new(kvs.all_keys()?))),
         Call::Exists(_, key) => Ok(Answer::Truth(kvs.key_exists(key))),
-        Call::Get(_, key) => Ok(Answer::Val(value_of(kvs, alloc, key)?)),
-        Call::GetAs(_, key, asked) => Ok(Answer::Val(value_as(kvs, alloc, key, asked)?)),
+        Call::Get(_, key) => Ok(Answer::Val(kvs.get_copy(key)?)),
+        Call::GetAs(_, key, asked) => Ok(Answer::Val(kvs.get_as(key, asked.value_type())?)),
         Call::Set(_, key, value) => {
             kvs.set_copy(key, value)?;
             Ok(Answer::Done)
@@ -54,38 +54,5 @@ pub(crate) fn answer_keys(kvs: &mut Kvs, alloc: Global, call: &Call) -> Result<A
             Ok(Answer::Done)
         }
         _ => Err(PerError::StorageNotFound),
-    }
-}
-
-/// A copy of the value of a key.
-fn value_of(kvs: &Kvs, alloc: Global, key: &Name) -> Result<Value, PerError>
-    ensures ok { IfOk result (λ value. calls.get_any kvs.now.config kvs.now.session.visible key.now ≡ Ok value) }
-    ensures refused { IfErr result (λ error. IsRefusal (calls.get_any kvs.now.config kvs.now.session.visible key.now)
-        error) }
-    ensures memory { IfErr result (λ error. error ≡ PerError.OutOfMemory
-        → NeedsMemory (calls.get_any kvs.now.config kvs.now.session.visible key.now)) }
-{
-    copy_of(alloc, kvs.get_any(key)?)
-}
-
-/// A copy of the value of a key, asked for by its type.
-fn value_as(kvs: &Kvs, alloc: Global, key: &Name, asked: &AskedType) -> Result<Value, PerError>
-    ensures ok { IfOk result (λ value. calls.get_as kvs.now.config kvs.now.session.visible key.now asked.now
-        ≡ Ok value) }
-    ensures refused { IfErr result (λ error. IsRefusal (calls.get_as kvs.now.config kvs.now.session.visible key.now
-        asked.now) error) }
-    ensures memory { IfErr result (λ error. error ≡ PerError.OutOfMemory
-        → NeedsMemory (calls.get_as kvs.now.config kvs.now.session.visible key.now asked.now)) }
-{
-    copy_of(alloc, kvs.get_as(key, asked.value_type())?)
-}
-
-fn copy_of(alloc: Global, value: &Value) -> Result<Value, PerError>
-    ensures ok { IfOk result (λ copy. copy ≡ value.now) }
-    ensures memory { IfErr result (λ error. error ≡ PerError.OutOfMemory) }
-{
-    match value.copy(alloc) {
-        Ok(copy) => Ok(copy),
-        Err(_) => Err(PerError::OutOfMemory),
     }
 }
