@@ -42,6 +42,9 @@ const MANIFEST_AWAITED: &str =
 /// What an output is handed first of a reply that has many bytes, which is handed over in pieces.
 const OCTETS: &[u8] = b"bytes ";
 
+/// With what the first piece begins of a reply that has a long value, which is handed over in pieces too.
+const VALUE: &[u8] = b"value ";
+
 /// Why no call was made.
 #[derive(Clone, Copy)]
 enum Unmade {
@@ -380,6 +383,7 @@ fn status_of_lines<R: Files<File = File> + AllocGlobal + Print + Screen>(
         alloc,
         refusal: &refusal,
         in_octets: false,
+        in_value: false,
     };
     let status = program::run(rt, options, input, output);
     refusal.status_after(status)
@@ -595,7 +599,16 @@ fn line_length(lines: &[u8]) -> usize
     }
 }
 
-/// Replies as an output, which are shown to a person: each write is one, or a piece of one that has many bytes.
+/// The text of a value that is handed over in pieces, as far as the first has it.
+fn begun_value(bytes: &[u8]) -> Option<&[u8]> {
+    if bytes.ends_with(b"\n") {
+        return None;
+    }
+    bytes.strip_prefix(VALUE)
+}
+
+/// Replies as an output, which are shown to a person: each write is one, or a piece of one that has many bytes or a long
+/// value.
 #[derive(Drop)]
 struct Answers<'a, R: Print + Screen> {
     rt: &'a R,
@@ -603,6 +616,8 @@ struct Answers<'a, R: Print + Screen> {
     refusal: &'a Refusal,
     /// Whether the digits of such a reply are being written.
     in_octets: bool,
+    /// Whether the text of such a value is being written.
+    in_value: bool,
 }
 
 impl<'a, R: Print + Screen> Answers<'a, R> {
@@ -642,11 +657,18 @@ impl<'a, R: Print + Screen> Answers<'a, R> {
 impl<'a, R: Print + Screen> Write for Answers<'a, R> {
     fn write(&mut self, bytes: &[u8]) -> io::Result<usize> {
         let lines = bytes.strip_suffix(b"\n").unwrap_or(bytes);
+        let goes_on = lines.len() == bytes.len();
         if self.in_octets {
             self.write_shown(Shown::Octets, lines)?;
-            self.in_octets = lines.len() == bytes.len();
+            self.in_octets = goes_on;
+        } else if self.in_value {
+            io::writer(self.rt).write_all(bytes)?;
+            self.in_value = goes_on;
         } else if bytes == OCTETS {
             self.in_octets = true;
+        } else if let Some(text) = begun_value(bytes) {
+            self.in_value = true;
+            io::writer(self.rt).write_all(text)?;
         } else {
             for line in lines.split(|byte| *byte == b'\n') {
                 self.show(line)?;

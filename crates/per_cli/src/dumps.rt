@@ -1,9 +1,11 @@
 //! Whole applications as a text, from a shell: `per dump --dir DIR`, and back: `per restore --dir DIR`.
 //!
 //! A dump changes nothing. A restore reads its whole text before it holds the folder, and then installs one application
-//! after another, each whole or not at all.
+//! after another, each whole or not at all. How long a dump may be is bounded ([`fitting`](crate::fitting)).
 
 use crate::causes::{Ended, Fault, say, say_of_folder};
+use crate::fitting::{DUMP_BYTES, TOO_LONG, fits};
+use crate::measuring::longest_dump;
 use crate::saying::{Screen, say as say_line, say_awaited};
 use crate::{
     NO_DISK, NO_INPUT, NO_MEMORY, NO_OUTPUT, REFUSED_CALL, REFUSED_WORDS, WRONG_SIZE, program,
@@ -189,9 +191,8 @@ fn wanted_in<R: Files<File = File> + Input + Screen>(
 
 /// The applications of the dump on standard input.
 fn typed_dump<R: Input + Screen>(rt: &R, alloc: Global) -> Result<Wanted, Unbegun> {
-    let mut text = Vec::new(alloc);
     say_awaited(rt, DUMP_AWAITED);
-    rt.reader().read_to_end(&mut text)?;
+    let text = text_of(alloc, rt.reader())?;
     Ok(Wanted::Restore(dump_in(alloc, text.as_slice())?))
 }
 
@@ -204,15 +205,25 @@ fn dump_in_file<R: Files<File = File>>(
     let Ok(file) = str::from_utf8(file) else {
         return Err(Unbegun::Refused(RESTORE_TAKES));
     };
-    let mut text = Vec::new(alloc);
-    fs::open(rt, file)?.read_to_end(&mut text)?;
+    let text = text_of(alloc, fs::open(rt, file)?)?;
     Ok(Wanted::Restore(dump_in(alloc, text.as_slice())?))
+}
+
+/// The text that is read, as far as a dump may be one byte longer than it may.
+fn text_of<S: Read>(alloc: Global, source: S) -> Result<Vec<u8>, Unbegun> {
+    let mut text = Vec::new(alloc);
+    source.take(DUMP_BYTES + 1).read_to_end(&mut text)?;
+    text.shrink_to_fit();
+    Ok(text)
 }
 
 /// The applications of a dump.
 fn dump_in(alloc: Global, text: &[u8]) -> Result<Vec<DumpedApplication>, Unbegun> {
     if text.is_empty() {
         return Err(Unbegun::NoDump(String::from_str(alloc, "it is empty")?));
+    }
+    if !fits(text) {
+        return Err(Unbegun::NoDump(String::from_str(alloc, TOO_LONG)?));
     }
     match read_dump(alloc, text) {
         Err(DumpError::NotADump(said)) => Err(Unbegun::NoDump(explained(alloc, text, said)?)),
@@ -481,7 +492,7 @@ fn dump<R: Screen, D: Disk>(
             Err(stop) => return Err(status_of(stop)),
         }
     }
-    match write_dump(alloc, dumped.as_slice()) {
+    match bounded_dump(alloc, dumped.as_slice()) {
         Ok(text) => Ok(text),
         Err(DumpError::NotADump(why)) => {
             let line = format!(in alloc; "per: no dump can be written: {why}");
@@ -490,6 +501,17 @@ fn dump<R: Screen, D: Disk>(
         }
         Err(DumpError::OutOfMemory) => Err(NO_MEMORY),
     }
+}
+
+/// The text of a dump, where it is one that a restore reads. One that gets too long is not made.
+fn bounded_dump(alloc: Global, dumped: &[DumpedApplication]) -> Result<Vec<u8>, DumpError> {
+    if longest_dump(alloc, dumped)? <= DUMP_BYTES {
+        let text = write_dump(alloc, dumped)?;
+        if fits(text.as_slice()) {
+            return Ok(text);
+        }
+    }
+    Err(DumpError::NotADump(String::from_str(alloc, TOO_LONG)?))
 }
 
 /// Restores applications one after another, also after one that is refused, and gives the status.

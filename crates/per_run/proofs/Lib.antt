@@ -17,6 +17,8 @@ pub mod Completes
 pub mod Tallied
 pub mod Outputs
 pub mod Spelled
+pub mod Behind
+pub mod Walks
 pub mod Fresh
 pub mod Answered
 pub mod Caused

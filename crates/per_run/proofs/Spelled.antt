@@ -34,7 +34,8 @@ cut_sooner a b front rest cut = (
   rw (take-append-le cut.0 front rest (omega (arith, cut.1))) cut.2,
 )
 
-later : (a b c : Option (List ℕ)) (front rest : List ℕ) → Appends a b front → WroteProperPrefix b c rest
+-- and one whose end is cut, after its start was taken
+pub later : (a b c : Option (List ℕ)) (front rest : List ℕ) → Appends a b front → WroteProperPrefix b c rest
     → WroteProperPrefix a c (front ++ rest)
 later a b c front rest took cut = (
   length front + cut.0,
@@ -42,7 +43,7 @@ later a b c front rest took cut = (
   rw (take-append-add front rest cut.0) (Appends-trans a b c front _ took cut.2),
 )
 
--- and so is one whose end is cut, after its start was taken
+-- by the result of the end
 pub cut_later : {T E : Type 0} (r : Result T E) (a b c : Option (List ℕ)) (front rest : List ℕ) → Appends a b front
     → OnErr r (WroteProperPrefix b c rest) → OnErr r (WroteProperPrefix a c (front ++ rest))
 cut_later r a b c front rest took cut = on_err_weaker r (later a b c front rest took) cut

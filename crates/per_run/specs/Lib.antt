@@ -3,6 +3,7 @@ pub mod Serves
 pub mod Jobs
 pub mod Needs
 pub mod Steps
+pub mod Puts
 pub mod Serving
 pub mod Flashes
 pub mod Samples

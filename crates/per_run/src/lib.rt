@@ -38,6 +38,7 @@ mod importing;
 mod input;
 mod job;
 mod listing;
+mod long_values;
 mod octets;
 mod preparing;
 mod reader;

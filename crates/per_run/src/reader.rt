@@ -19,6 +19,7 @@ ghost use Rattle.per_run.specs.Steps.{PutsOutput, Reached, reading};
 ghost use Rattle.per_run.specs.Steps.{ending_of};
 
 use crate::endings::Ending;
+use crate::long_values::{nested_value, write_value};
 use crate::octets::{many_octets, write_octets};
 use crate::writing::{write_made, write_text};
 use command_text::{Event, LINE_BYTES, Line, LineError, Reply, parse_line_reusing, push_reply};
@@ -425,8 +426,8 @@ fn handle_event<D: Disk, K: Sink>(
 
 /// Writes the reply of a command.
 ///
-/// Many bytes are written piece by piece. Where memory runs out the sink takes nothing of the reply, and where the sink
-/// fails not all.
+/// Many bytes, and a value with others in it, are written piece by piece. Where memory runs out the sink takes nothing
+/// of the reply, and where the sink fails not all.
 pub fn write_reply<K: Sink>(
     alloc: Global,
     sink: &mut K,
@@ -440,6 +441,24 @@ pub fn write_reply<K: Sink>(
 {
     match many_octets(reply) {
         Some(bytes) => write_octets(alloc, sink, bytes),
+        None => write_nested(alloc, sink, room, reply),
+    }
+}
+
+/// The same of a reply that has not many bytes.
+#[inline(always)]
+fn write_nested<K: Sink>(
+    alloc: Global,
+    sink: &mut K,
+    room: &mut String,
+    reply: &Reply,
+) -> Result<(), Ending>
+    requires { HasText reply.now.answer }
+    ensures puts { PutsOutput (reply_text reply.now) (K.written sink.old) (K.written sink.new) result }
+    ensures blames { Blames (K.faults sink.old) (K.faults sink.new) result }
+{
+    match nested_value(reply) {
+        Some(value) => write_value(alloc, sink, value),
         None => write_at_once(sink, room, reply),
     }
 }
