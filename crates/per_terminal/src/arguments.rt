@@ -1,10 +1,11 @@
 //! The arguments of the program: why they cannot be read, and what is wrong with one.
 
-ghost use Rattle.std.specs.Prelude.{◌≡◌, ◌≢◌, IfOk, None, false, is_some, map, option_map, string_bytes};
+ghost use Rattle.std.specs.Prelude.{◌≡◌, ◌≢◌, ◌++◌, IfOk, None, codes, false, is_some, map, option_map, string_bytes};
 ghost use Rattle.std.specs.IoError.{error_kind};
+ghost use Rattle.std.specs.Str.{bytes_eq};
 ghost use Rattle.std.specs.declared.io.ErrorKind.TheVariants.{OutOfMemory};
-ghost use Rattle.per_reasons.specs.Reasons.{IsShown, word_shown};
-ghost use Rattle.per_terminal.specs.Arguments.{has_dashed_folder, said_of_word};
+ghost use Rattle.per_reasons.specs.Reasons.{IsShown, dots_after, word_shown};
+ghost use Rattle.per_terminal.specs.Arguments.{has_dashed_folder, said_of_other, said_of_word};
 
 use crate::folders::typed_option;
 use crate::saying::{Screen, no_memory, say};
@@ -119,14 +120,56 @@ pub fn wrong_word(alloc: Global, word: &[u8]) -> Result<Option<String>, AllocErr
         → IfOk result (λ why. option_map string_bytes why ≡ said_of_word word.now (word_shown word.now)) }
     ensures hidden { ¬ (IsShown (word_shown word.now)) → IfOk result (λ why. why ≡ None) }
 {
-    let dots = dots_after(word);
     match text_shown(word) {
-        Some("") | None => Ok(None),
-        Some("--demo") => Ok(Some(String::from_str(alloc, "--demo stands alone")?)),
-        Some("--json") => Ok(Some(String::from_str(alloc, "--json stands beside ls alone")?)),
-        Some(text) if is_line_word(word) => Ok(Some(format!(in alloc;
-            "{text} is a call of a line: ./per --dir DIR handles lines"
-        )?)),
-        Some(text) => Ok(Some(format!(in alloc; "{text}{dots} is none of these")?)),
+        Some(shown) => said_of_word(alloc, word, shown),
+        None => Ok(None),
     }
+}
+
+/// What is said of a word of which this is shown.
+fn said_of_word(alloc: Global, word: &[u8], shown: &str) -> Result<Option<String>, AllocError>
+    ensures { IfOk result (λ said. option_map string_bytes said ≡ said_of_word word.now shown.now) }
+{
+    if is_text(shown, "") {
+        return Ok(None);
+    }
+    if is_text(shown, "--demo") {
+        return Ok(Some(String::from_str(alloc, "--demo stands alone")?));
+    }
+    if is_text(shown, "--json") {
+        return Ok(Some(String::from_str(alloc, "--json stands beside ls alone")?));
+    }
+    Ok(Some(said_of_other(alloc, word, shown)?))
+}
+
+/// What is said of a word of which this is shown, and which stands beside others nowhere.
+fn said_of_other(alloc: Global, word: &[u8], shown: &str) -> Result<String, AllocError>
+    ensures { IfOk result (λ said. string_bytes said ≡ said_of_other word.now shown.now) }
+{
+    if is_line_word(word) {
+        said_of_call(alloc, shown)
+    } else {
+        said_of_stranger(alloc, word, shown)
+    }
+}
+
+fn said_of_call(alloc: Global, shown: &str) -> Result<String, AllocError>
+    ensures { IfOk result (λ said. string_bytes said
+        ≡ shown.now ++ codes " is a call of a line: ./per --dir DIR handles lines") }
+{
+    format!(in alloc; "{shown} is a call of a line: ./per --dir DIR handles lines")
+}
+
+fn said_of_stranger(alloc: Global, word: &[u8], shown: &str) -> Result<String, AllocError>
+    ensures { IfOk result (λ said. string_bytes said
+        ≡ shown.now ++ (dots_after word.now ++ codes " is none of these")) }
+{
+    let dots = dots_after(word);
+    format!(in alloc; "{shown}{dots} is none of these")
+}
+
+fn is_text(text: &str, other: &str) -> bool
+    ensures { result ≡ bytes_eq text.now other.now }
+{
+    text == other
 }

@@ -5,7 +5,7 @@ use crate::saying::{Screen, say};
 use command_text::{LineError, parse_line};
 use per_reasons::why_no_line;
 use per_words::{call_shown, help_asked};
-use std::alloc::Global;
+use std::alloc::{AllocError, Global};
 use std::io::{self, BufRead, Input, Read};
 
 /// An input that asks for each line, and again for one that is outside the grammar. A line that a run is given is
@@ -78,13 +78,13 @@ impl<'a, R: Input + Print + Screen> Asking<'a, R> {
             show_asked(self.rt, self.alloc, word)?;
             return Ok(false);
         }
-        match parse_line(self.alloc, line) {
-            Ok(_) => Ok(true),
-            Err(LineError::NotALine) => {
+        match is_line(self.alloc, line) {
+            Ok(true) => Ok(true),
+            Ok(false) => {
                 let _ = self.say_flaw(line);
                 Ok(false)
             }
-            Err(LineError::OutOfMemory) => Err(io::Error::from(io::ErrorKind::OutOfMemory)),
+            Err(_) => Err(io::Error::from(io::ErrorKind::OutOfMemory)),
         }
     }
 
@@ -98,6 +98,15 @@ impl<'a, R: Input + Print + Screen> Asking<'a, R> {
             ),
             Ok(None) | Err(_) => self.rt.eprintln("per: no line; try help"),
         }
+    }
+}
+
+/// Whether the text is a line of the grammar.
+fn is_line(alloc: Global, text: &[u8]) -> Result<bool, AllocError> {
+    match parse_line(alloc, text) {
+        Ok(_) => Ok(true),
+        Err(LineError::NotALine) => Ok(false),
+        Err(LineError::OutOfMemory) => Err(AllocError),
     }
 }
 

@@ -46,11 +46,7 @@ pub fn say_command<R: Screen>(
 }
 
 /// Says a line, if there was memory for it.
-pub fn say<R: Screen>(
-    rt: &R,
-    alloc: Global,
-    line: Result<String, AllocError>,
-) -> io::Result<()> {
+pub fn say<R: Screen>(rt: &R, alloc: Global, line: Result<String, AllocError>) -> io::Result<()> {
     say_rows(rt, alloc, line, false)
 }
 

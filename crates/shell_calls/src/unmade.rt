@@ -5,9 +5,7 @@ ghost use Rattle.shell_calls.specs.Unmade.{status_of};
 
 use crate::refusals::{has_white_space, why_refused};
 use command_text::LineError;
-use per_terminal::{
-    NO_INPUT, REFUSED_WORDS, Screen, dashed_folder, no_memory, say, wrong_word,
-};
+use per_terminal::{NO_INPUT, REFUSED_WORDS, Screen, dashed_folder, no_memory, say, wrong_word};
 use per_words::{options_in, takes_manifest, unknown_in};
 use std::alloc::{AllocError, Global};
 use std::io;
