@@ -32,7 +32,10 @@ fn made<R: Files<File = File> + AllocGlobal + Input + Print + Screen>(
     let alloc = rt.alloc();
     let mut options = options_in(alloc, words)?;
     let are_valid = are_valid(alloc, options.as_slice())?;
-    let accepted = accepted_in(alloc, named)?;
+    let [call, target, arguments @ ..] = named else {
+        return Err(Unmade::Refused);
+    };
+    let accepted = accepted_in(alloc, call, target, arguments)?;
     // Where the options are refused the run says so, and nothing is read before.
     let text = if are_valid {
         lines_of_call(rt, alloc, accepted)?
@@ -40,7 +43,7 @@ fn made<R: Files<File = File> + AllocGlobal + Input + Print + Screen>(
         CallText::whole(alloc, Vec::new(alloc))
     };
     // An installation makes an empty folder ready first.
-    if is_installation(named) {
+    if is_installation(call) {
         push_serve(alloc, &mut options)?;
     }
     Ok(status_of_lines(rt, alloc, options.as_slice(), text)?)

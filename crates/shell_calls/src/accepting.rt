@@ -1,7 +1,8 @@
 //! What the words of a call say.
 
 ghost use Rattle.std.specs.Prelude.{◌≡◌, IfOk, codes, map};
-ghost use Rattle.shell_calls.specs.Accepted.{IsAcceptedOf, is_first};
+ghost use Rattle.std.specs.Str.{bytes_eq};
+ghost use Rattle.shell_calls.specs.Accepted.{IsAcceptedOf};
 
 use crate::unmade::Unmade;
 use per_words::{call_lines, content_lines, takes_manifest};
@@ -25,33 +26,35 @@ pub enum Accepted<'a> {
     },
 }
 
-/// What the words of the call say: its name, its application or storage, and what it takes. They are refused before
+/// What the words of a call say: its name, its application or storage, and what it takes. They are refused before
 /// anything is read.
 ///
 /// # Errors
 ///
 /// They are those of no call, or memory ran out.
-pub fn accepted_in<'a>(alloc: Global, named: &[&'a [u8]]) -> Result<Accepted<'a>, Unmade>
-    ensures { IfOk result (IsAcceptedOf (map (λ word. word.now) named.now)) }
+pub fn accepted_in<'a>(
+    alloc: Global,
+    call: &'a [u8],
+    target: &'a [u8],
+    arguments: &[&'a [u8]],
+) -> Result<Accepted<'a>, Unmade>
+    ensures { IfOk result (IsAcceptedOf call.now target.now (map (λ word. word.now) arguments.now)) }
 {
-    let [call, target, arguments @ ..] = named else {
-        return Err(Unmade::Refused);
-    };
     match arguments {
         [file] if takes_manifest(call) => {
             if !is_application(target) {
                 return Err(Unmade::Refused);
             }
             Ok(Accepted::Manifest {
-                call: *call,
-                target: *target,
+                call,
+                target,
                 file: *file,
             })
         }
-        [file] if is_first(named, b"put") => {
+        [file] if is_word(call, b"put") => {
             drop(content_lines(alloc, target, file, Vec::new(alloc))?);
             Ok(Accepted::Content {
-                target: *target,
+                target,
                 file: *file,
             })
         }
@@ -60,20 +63,16 @@ pub fn accepted_in<'a>(alloc: Global, named: &[&'a [u8]]) -> Result<Accepted<'a>
 }
 
 /// Whether the call installs a first version.
-pub fn is_installation(named: &[&[u8]]) -> bool
-    ensures { result ≡ is_first (codes "install") (map (λ word. word.now) named.now) }
+pub fn is_installation(call: &[u8]) -> bool
+    ensures { result ≡ bytes_eq call.now (codes "install") }
 {
-    is_first(named, b"install")
+    is_word(call, b"install")
 }
 
-/// Whether this is the first word of a call.
-fn is_first(named: &[&[u8]], word: &[u8]) -> bool
-    ensures { result ≡ is_first word.now (map (λ word. word.now) named.now) }
+fn is_word(text: &[u8], word: &[u8]) -> bool
+    ensures { result ≡ bytes_eq text.now word.now }
 {
-    match named {
-        [first, ..] => *first == word,
-        _ => false,
-    }
+    text == word
 }
 
 /// Whether the word is the number of an application.

@@ -1,6 +1,7 @@
 //! What a call takes, from a file or from standard input.
 
-ghost use Rattle.std.specs.Prelude.{◌≡◌, IfOk};
+ghost use Rattle.std.specs.Prelude.{◌≡◌, IfOk, IfSome};
+ghost use Rattle.shell_calls.specs.Accepted.{lines_of};
 
 use crate::accepting::Accepted;
 use crate::unmade::Unmade;
@@ -39,7 +40,7 @@ pub fn lines_of_call<R: Files<File = File> + AllocGlobal + Input + Screen>(
     accepted: Accepted<'_>,
 ) -> Result<CallText, Unmade>
     // Of a call that takes nothing they are the lines that its words say.
-    ensures { (lines : Vec u8) → accepted ≡ Accepted.Lines lines → IfOk result (λ text. text ≡ lines.items) }
+    ensures { IfOk result (λ text. IfSome (lines_of accepted) (λ lines. text ≡ lines)) }
 {
     match accepted {
         Accepted::Lines(lines) => Ok(CallText::whole(alloc, lines)),
