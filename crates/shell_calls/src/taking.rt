@@ -40,7 +40,7 @@ pub fn lines_of_call<R: Files<File = File> + AllocGlobal + Input + Screen>(
     accepted: Accepted<'_>,
 ) -> Result<CallText, Unmade>
     // Of a call that takes nothing they are the lines that its words say.
-    ensures { IfOk result (λ text. IfSome (lines_of accepted) (λ lines. text ≡ lines)) }
+    ensures { IfOk result (λ text. IfSome (lines_of accepted.entry) (λ lines. text ≡ lines)) }
 {
     match accepted {
         Accepted::Lines(lines) => Ok(CallText::whole(alloc, lines)),
