@@ -1,11 +1,10 @@
 //! The output of a run: why the disk failed, and why a line was refused, is told where it is answered.
 
-use crate::causes::{Fault, say_answered, say_of_folder};
 use crate::hearing::LastRead;
-use crate::saying::{Screen, say};
 use crate::trying::{Place, why_not_updated_in};
 use per_reasons::why_refused;
 use per_system::Notes;
+use per_terminal::{Fault, Screen, say, say_answered, say_of_folder};
 use std::alloc::{AllocError, Global};
 use std::cell::Cell;
 use std::fs::File;
@@ -20,7 +19,7 @@ const NO_ROOT: &[u8] = b"error 5 IntegrityCorrupted root\n";
 
 /// What shows while a run goes on.
 #[derive(Drop)]
-pub(crate) struct Marks {
+pub struct Marks {
     /// Whether a line of an audit says that something is damaged or lost.
     has_damage: Cell<bool>,
     /// Whether the folder has no file of the disk or of the flash, and this is to be said.
@@ -30,7 +29,8 @@ pub(crate) struct Marks {
 }
 
 impl Marks {
-    pub(crate) fn new() -> Marks {
+    /// Nothing shows yet.
+    pub fn new() -> Marks {
         Marks {
             has_damage: Cell::new(false),
             is_blank: Cell::new(false),
@@ -38,43 +38,55 @@ impl Marks {
         }
     }
 
-    pub(crate) fn has_damage(&self) -> bool {
+    /// Whether a line of an audit said that something is damaged or lost.
+    pub fn has_damage(&self) -> bool {
         self.has_damage.get()
     }
 
-    pub(crate) fn is_told(&self) -> bool {
+    /// Whether it was said that the folder has no file of the disk or of the flash.
+    pub fn is_told(&self) -> bool {
         self.is_told.get()
     }
 
-    pub(crate) fn note_blank(&self) {
+    /// Notes that the folder has none, which is to be said of the first line that is refused for it.
+    pub fn note_blank(&self) {
         self.is_blank.set(true);
     }
 
-    pub(crate) fn note_told(&self) {
+    /// Notes that it was said.
+    pub fn note_told(&self) {
         self.is_blank.set(false);
         self.is_told.set(true);
     }
 }
 
-/// An output that says on standard error why the disk failed, or a line was refused, before it takes the reply.
+/// An output that says on standard error why the disk failed, or a line was refused, before it takes the reply. What is
+/// written to it is what its output takes.
 #[derive(Drop)]
-pub(crate) struct Telling<'a, R: Files<File = File> + Screen, O: Write + Drop> {
-    pub(crate) rt: &'a R,
-    pub(crate) alloc: Global,
+pub struct Telling<'a, R: Files<File = File> + Screen, O: Write + Drop> {
+    /// The process.
+    pub rt: &'a R,
+    /// Its memory.
+    pub alloc: Global,
     /// Where the run is.
-    pub(crate) place: Place<'a>,
-    pub(crate) notes: &'a Notes,
+    pub place: Place<'a>,
+    /// Where the failures of the disk are noted.
+    pub notes: &'a Notes,
     /// Why the disk failed, where no call of the system did.
-    pub(crate) otherwise: Option<Fault>,
+    pub otherwise: Option<Fault>,
     /// The lines that are answered.
-    pub(crate) last: &'a LastRead,
+    pub last: &'a LastRead,
     /// Whether what is written is an audit.
-    pub(crate) audits: bool,
-    pub(crate) marks: &'a Marks,
-    pub(crate) output: O,
+    pub audits: bool,
+    /// What shows in the replies.
+    pub marks: &'a Marks,
+    /// What takes the replies.
+    pub output: O,
 }
 
 impl<'a, R: Files<File = File> + Screen, O: Write + Drop> Write for Telling<'a, R, O> {
+    ghost contents = { λ telling. O.contents telling.output };
+
     fn write(&mut self, bytes: &[u8]) -> io::Result<usize> {
         if answers_failure(bytes) {
             self.say_fault();

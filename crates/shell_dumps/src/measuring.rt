@@ -58,9 +58,10 @@ fn element_length(alloc: Global, element: &Fresh) -> Result<u64, AllocError> {
         return Ok(name.saturating_add(digits).saturating_add(FILE_BYTES));
     }
     match decode(alloc, bytes) {
-        Ok(value) => Ok(name
-            .saturating_add(node_length(value.node()))
-            .saturating_add(KEY_BYTES)),
+        Ok(value) => Ok(
+            name.saturating_add(node_length(value.node()))
+                .saturating_add(KEY_BYTES),
+        ),
         Err(DecodeError::NotAValue) => Ok(name),
         Err(DecodeError::OutOfMemory) => Err(AllocError),
     }
@@ -113,7 +114,9 @@ fn type_length(value_type: &ValueType) -> u64 {
 fn types_length(types: &[ValueType]) -> u64 {
     let mut length: u64 = 0;
     for value_type in types {
-        length = length.saturating_add(type_length(value_type)).saturating_add(1);
+        length = length
+            .saturating_add(type_length(value_type))
+            .saturating_add(1);
     }
     length
 }
