@@ -104,7 +104,7 @@ entries_differ format blocks kind name (d ∷ old) (e ∷ new) ascend are be zip
     let text = entry_text format in
     let rest = entries_differ format blocks kind name old new ascend.1 are.1 be.1 zip.1 in
     let was = flat_map text old in
-    rw (flat_map-cons, flat_map-cons) (⊎_elim
+    rw (flat_map-cons text d old, flat_map-cons text e new) (⊎_elim
     (λ same. subst (λ (x : IndexEntry). DifferWithin len (text d ++ was) (text x ++ flat_map text new)) (sym same)
     (after_same len (text d) was (flat_map text new) rest))
     (λ of_value.

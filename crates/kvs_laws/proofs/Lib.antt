@@ -7,3 +7,4 @@ pub mod Spans
 pub mod ChangedValues
 pub mod Blanks
 pub mod Thirds
+pub mod OnePut

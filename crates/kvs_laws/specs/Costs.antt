@@ -1,7 +1,12 @@
 -- What of an index changes with the value of one key, and how many runs of 256 bytes that reaches.
-use Rattle.std.specs.Prelude.{◌≡◌, ◌⊎◌, ◌≤◌, ℕ, ◌+◌, ◌-◌, ◌*◌, List, ◌++◌, length}
+use Rattle.std.specs.Prelude.{◌≡◌, ◌⊎◌, ◌≤◌, ℕ, ◌+◌, ◌-◌, ◌*◌, List, [], ◌∷◌, ◌++◌, length, Some}
 use Rattle.std.specs.Int.{div_ceil}
 use Rattle.std.specs.List.{AllZip}
+use Rattle.per_base.specs.declared.elements.StoreKind.TheVariants.{Keys}
+use Rattle.per_base.specs.declared.elements.Change.TheVariants.{Put}
+use Rattle.per_base.specs.declared.elements.Entry.{Entry}
+use Rattle.per_base.specs.declared.elements.Fresh.{Fresh}
+use Rattle.per_base.specs.Contents.{blocks_for}
 use Rattle.disk_model.specs.Image.{Image}
 use Rattle.disk_model.specs.declared.place.Place.{Place}
 use Rattle.hash_guard.specs.SealedText.{sealed}
@@ -12,6 +17,11 @@ use Rattle.index_text.specs.declared.entries.IndexEntry.{IndexEntry}
 use Rattle.index_text.specs.Rules.{IsIndex}
 use Rattle.index_text.specs.Sizes.{changed_length}
 use Rattle.index_text.specs.Spelling.{index_text}
+use Rattle.element_state.specs.Changes.{committed_by, entry_by_name}
+use Rattle.element_store.specs.declared.store.Store.{Store}
+use Rattle.element_store.specs.Changing.{KeepsOthers}
+use Rattle.element_store.specs.Committing.{index_in}
+use Rattle.element_store.specs.Stores.{IsStore, entries_of, store_shape, view_in}
 
 -- ---- bytes
 
@@ -66,3 +76,20 @@ pub record Follow (place : Place) (g : ℕ) (a b c : Index) (start mid now : Ima
 -- how many bytes of the index c are then written at most, in all copies
 abbrev pub next_cost : (place : Place) (g : ℕ) (c : Index) (now : Image) → ℕ
 next_cost place g c now = texts_cost place (own (g + 2)) (sealed (g + 2) (index_text c)) now place.copies
+
+-- ---- a commit that puts one value
+
+-- What the clauses of a commit say of a storage of keys before and after it, where its one change puts a value of a key
+-- that is there, and this value takes as many blocks as the one before.
+pub record PutsValue (f : Fresh) (old new : Store) : Type 0 where
+  pub kind : (store_shape old).kind ≡ Keys
+  pub old_store : IsStore old
+  pub new_store : IsStore new
+  pub shape : store_shape new ≡ store_shape old
+  pub view : view_in new ≡ committed_by (store_shape old) (view_in old) (Put f ∷ [])
+  pub carried : KeepsOthers (Put f ∷ []) (index_in old).entries (index_in new).entries
+  pub old_format : (index_in old).format ≡ 2
+  pub new_format : (index_in new).format ≡ 2
+  pub was : Entry
+  pub there : entry_by_name f.name (entries_of old) ≡ Some was
+  pub as_many : blocks_for was.len ≡ blocks_for (length f.bytes)

@@ -1,13 +1,18 @@
 //! What a sync costs where the value of one key changes and nothing else.
 
-ghost use Rattle.std.specs.Prelude.{ℕ, ◌+◌, ◌*◌, ◌≤◌, List};
+ghost use Rattle.std.specs.Prelude.{ℕ, ◌+◌, ◌*◌, ◌≤◌, List, length};
+ghost use Rattle.per_base.specs.declared.elements.Fresh.{Fresh};
+ghost use Rattle.per_base.specs.Contents.{blocks_for};
 ghost use Rattle.changed_runs.specs.Changed.{changed_len};
 ghost use Rattle.disk_model.specs.Image.{Image};
 ghost use Rattle.disk_model.specs.declared.place.Place.{Place};
 ghost use Rattle.index_text.specs.declared.entries.Index.{Index};
 ghost use Rattle.index_text.specs.Rules.{IsIndex};
 ghost use Rattle.index_text.specs.Spelling.{index_text};
-ghost use Rattle.kvs_laws.specs.Costs.{ChangesValue, DifferWithin, Follow, next_cost, runs_reached, value_length};
+ghost use Rattle.element_store.specs.declared.store.Store.{Store};
+ghost use Rattle.element_store.specs.Committing.{index_in};
+ghost use Rattle.kvs_laws.specs.Costs.{ChangesValue, DifferWithin, Follow, PutsValue};
+ghost use Rattle.kvs_laws.specs.Costs.{next_cost, runs_reached, value_length};
 
 use guarded_cell::blanked_slots_cost_what_differs;
 
@@ -24,6 +29,11 @@ pub fn changed_values_cost_few_runs()
     // The texts of two indexes that differ in the value of one key differ within what that value decides of its entry.
     ensures values { (p : List ℕ) (m : ℕ) (a b : Index) → IsIndex a → IsIndex b → ChangesValue p m a b
         → DifferWithin (value_length a.format m) (index_text a) (index_text b) }
+
+    // A commit whose one change puts a value of a key that is there, in as many blocks as before, changes that value
+    // and nothing else.
+    ensures commits { (f : Fresh) (old new : Store) → PutsValue f old new
+        → ChangesValue f.name (blocks_for (length f.bytes)) (index_in old) (index_in new) }
 
     // The indexes are put one after another: b changes the value of the key p, and c that of q, or of p again.
     ensures two_keys { (place : Place) (g m n : ℕ) (p q : List ℕ) (a b c : Index) (start mid now : Image)

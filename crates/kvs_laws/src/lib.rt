@@ -3,8 +3,8 @@
 //! These are the laws by which a program that embeds a key-value storage says what becomes of its values. Each is the
 //! contract of a function with nothing to do, which a caller calls to cite it. A value that was set is what is got
 //! ([`set_is_got`]). An open storage reads on its disk as it shows, and a stop at any moment of a sync, and then damage
-//! that spares as many copies as must agree, leaves the old value or the new one ([`values_stand`]). A sync that changes
-//! one value writes few runs of the index, however many keys it has ([`changed_values_cost_few_runs`]).
+//! that spares as many copies as must agree, leaves the old value or the new one ([`values_stand`]). Where one value
+//! changes few runs of the index are written, however many keys it has ([`changed_values_cost_few_runs`]).
 //!
 //! Words of the laws: a *case* is what a crash at one moment may leave of the disk, a *stop* a crash at any moment;
 //! `told` says that the bytes of the disk are modelled; a place is *clean* where nothing on it contradicts anything; an

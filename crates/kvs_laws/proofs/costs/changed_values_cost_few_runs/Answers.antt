@@ -1,5 +1,6 @@
 use Rattle.kvs_laws.proofs.Spans.{span_cost}
 use Rattle.kvs_laws.proofs.ChangedValues.{texts_differ}
+use Rattle.kvs_laws.proofs.OnePut.{put_changes}
 use Rattle.kvs_laws.proofs.Thirds.{two_keys, one_key, five, three}
 use Rattle.kvs_laws.proofs.costs.changed_values_cost_few_runs.Goals as goal
 
@@ -24,3 +25,6 @@ returns-clause-five_runs c = λ place g m n p q x y z start mid now f.
 pub returns-clause-three_runs : goal.returns-clause-three_runs
 returns-clause-three_runs c = λ place g m p x y z start mid now f.
     three c.blanked_slots_cost_what_differs.ensures.each place g x y z start mid now f m p
+
+pub returns-clause-commits : goal.returns-clause-commits
+returns-clause-commits c = put_changes
