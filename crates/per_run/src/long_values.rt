@@ -30,7 +30,9 @@ pub fn nested_value(reply: &Reply) -> Option<&Value>
     ensures answer { IfSome result (λ value. reply.now.answer ≡ Answer.Val value.now) }
 {
     match &reply.answer {
-        Answer::Val(value) if is_nested(value) && reply.reports.as_slice().is_empty() => Some(value),
+        Answer::Val(value) if is_nested(value) && reply.reports.as_slice().is_empty() => Some(
+            value,
+        ),
         _ => None,
     }
 }
@@ -205,7 +207,11 @@ fn put_hex_byte<K: Sink>(sink: &mut K, waiting: &mut Vec<u8>, byte: u8) -> Resul
 
 /// Puts the text of a type.
 #[cycle(put_types)]
-fn put_type<K: Sink>(sink: &mut K, waiting: &mut Vec<u8>, value_type: &ValueType) -> Result<(), Failed>
+fn put_type<K: Sink>(
+    sink: &mut K,
+    waiting: &mut Vec<u8>,
+    value_type: &ValueType,
+) -> Result<(), Failed>
     ensures puts { PutsBehind (K.written sink.old) (K.written sink.new) waiting.old.items waiting.new.items
         (type_text (kind_of value_type.now)) result }
     ensures cause { HasCause (K.faults sink.old) (K.faults sink.new) result }

@@ -187,7 +187,7 @@ fn dump_in_file<R: Files<File = File>>(
 }
 
 /// The text that is read, up to one byte beyond what a dump may have.
-fn text_of<S: Read>(alloc: Global, source: S) -> Result<Vec<u8>, Unbegun> {
+fn text_of<S: Read + Drop>(alloc: Global, source: S) -> Result<Vec<u8>, Unbegun> {
     let mut text = Vec::new(alloc);
     source.take(DUMP_BYTES + 1).read_to_end(&mut text)?;
     text.shrink_to_fit();

@@ -28,7 +28,7 @@ fn parts_in(text: &[u8]) -> u64 {
 }
 
 /// The parts that were counted so far.
-#[derive(Default)]
+#[derive(Default, Drop)]
 struct Parts {
     outside: u64,
     /// In the string that is being read.

@@ -81,7 +81,7 @@ fn node_length(node: &Node) -> u64 {
         Node::I32(_) => 15,
         Node::U64(_) | Node::I64(_) => 24,
         Node::Text(text) => text_length(text.as_str().as_bytes()).saturating_add(9),
-        Node::Bytes(bytes) => 2 * (bytes.len() as u64) + 6,
+        Node::Bytes(bytes) => 2_u64.saturating_mul(bytes.len() as u64).saturating_add(6),
         Node::List(item, items) => type_length(item)
             .saturating_add(nodes_length(items.as_slice()))
             .saturating_add(8),
