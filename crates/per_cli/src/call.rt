@@ -607,8 +607,8 @@ fn begun_value(bytes: &[u8]) -> Option<&[u8]> {
     bytes.strip_prefix(VALUE)
 }
 
-/// Replies as an output, which are shown to a person: each write is one, or a piece of one that has many bytes or a long
-/// value.
+/// Replies as an output, which are shown to a person: each write is one, or a piece of one that has many bytes or a
+/// long value.
 #[derive(Drop)]
 struct Answers<'a, R: Print + Screen> {
     rt: &'a R,

@@ -210,7 +210,7 @@ fn dump_in_file<R: Files<File = File>>(
 }
 
 /// The text that is read, as far as a dump may be one byte longer than it may.
-fn text_of<S: Read>(alloc: Global, source: S) -> Result<Vec<u8>, Unbegun> {
+fn text_of<S: Read + Drop>(alloc: Global, source: S) -> Result<Vec<u8>, Unbegun> {
     let mut text = Vec::new(alloc);
     source.take(DUMP_BYTES + 1).read_to_end(&mut text)?;
     text.shrink_to_fit();
