@@ -8,18 +8,16 @@ ghost use Rattle.folder_disk.specs.Held.{HoldsFree, IsHeldByte};
 
 use crate::folder::Folder;
 use crate::held::Held;
-use crate::notes::{forget, note};
+use crate::notes::{MOST_BYTES, forget, note, noted};
 use crate::opened::Opened;
 use crate::range::Range;
 use crate::syncing::{held_of, put_back, write_back};
 use system_model::{Asked, Failure, Part, System};
 
-/// How many bytes a write has at least that is synced at once: 64 KiB.
-const LARGE_WRITE: u64 = 65_536;
-
 impl<S: System> Folder<S> {
-    /// Notes that these bytes were written from the byte `at` on. A large write is synced at once: its bytes are at
-    /// hand then, and need not be read again before the next sync, which has nothing left to do for it.
+    /// Notes that these bytes were written from the byte `at` on. Where with them much of the file waits for a sync,
+    /// it is synced at once: these bytes are at hand then, and need not be read again before the next sync, which has
+    /// nothing left to do for the file.
     pub(crate) fn cover(&mut self, file: u32, at: u64, bytes: &[u8])
         requires knows { Knows S.told (S.medium self.old.system)
             (record { file = file; at = at; len = length bytes.now } ∷ self.old.ranges.items) self.old.is_fresh
@@ -38,7 +36,8 @@ impl<S: System> Folder<S> {
             at,
             len: bytes.len() as u64,
         };
-        if range.len < LARGE_WRITE || self.is_fresh {
+        let waiting = noted(self.ranges.as_slice(), file).saturating_add(range.len);
+        if waiting < MOST_BYTES || self.is_fresh {
             self.keep(range);
             return;
         }

@@ -308,11 +308,11 @@ impl<S: System> Folder<S> {
             Ok(progress) => progress,
             Err(error) => return Err(self.failed(Asked::Write, Part::File(file), error)),
         };
-        if progress.done < bytes.len() {
-            return Err(self.failed(Asked::Write, Part::File(file), reason(progress)));
-        }
         if self.is_lost {
             return Err(self.fault());
+        }
+        if progress.done < bytes.len() {
+            return Err(self.failed(Asked::Write, Part::File(file), reason(progress)));
         }
         self.written = written;
         Ok(())

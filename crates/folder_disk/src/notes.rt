@@ -6,8 +6,9 @@ ghost use Rattle.folder_disk.specs.Knows.{Covered};
 
 use crate::range::Range;
 
-/// How many bytes of a file may wait for a sync before it is synced unasked: 1 MiB.
-const MOST_BYTES: u64 = 1_048_576;
+/// With how many bytes that wait for a sync a file is synced unasked: 512 KiB. What is noted is read again before a
+/// sync, so this is what it has to hold at most, but after one that failed.
+pub(crate) const MOST_BYTES: u64 = 524_288;
 
 /// In how many ranges they may wait.
 const MOST_RANGES: usize = 1024;
@@ -70,17 +71,26 @@ pub(crate) fn is_noted(ranges: &[Range], file: u32) -> bool
     false
 }
 
-/// Whether so much was written to the file that it is to be synced before more is: as much is read again before a sync.
-pub(crate) fn is_full(ranges: &[Range], file: u32) -> bool {
+/// How many bytes that were written to the file are noted.
+pub(crate) fn noted(ranges: &[Range], file: u32) -> u64 {
     let mut bytes: u64 = 0;
-    let mut count: usize = 0;
     for range in ranges {
         if range.file == file {
             bytes = bytes.saturating_add(range.len);
+        }
+    }
+    bytes
+}
+
+/// Whether so much of the file is noted, in bytes or in ranges, that it is to be synced before more is written.
+pub(crate) fn is_full(ranges: &[Range], file: u32) -> bool {
+    let mut count: usize = 0;
+    for range in ranges {
+        if range.file == file {
             count = count.saturating_add(1);
         }
     }
-    bytes >= MOST_BYTES || count >= MOST_RANGES
+    count >= MOST_RANGES || noted(ranges, file) >= MOST_BYTES
 }
 
 /// Leaves out the ranges of a file.

@@ -4,7 +4,7 @@
 //! | row | what it does, and what is printed after it |
 //! |---|---|
 //! | `folder` | begins with an empty folder |
-//! | `> LINE` | a line of the next run |
+//! | `> LINE` | a line of the next run; in it `` `07`3` `` is `070707` |
 //! | `run WORDS` | runs the program with these words: `< REPLY` for each line of its output, and `= STATUS` |
 //! | `spoil COPY`, `spoil COPY half` | every file of this copy, of each root and storage, becomes unreadable until it is written, or its second half does |
 //! | `? LINE` | a line that looks at what is left, for one of the rows below |

@@ -7,7 +7,7 @@ use migrate_fns::Migrations;
 use std::alloc::{AllocError, Global};
 use std::{io, mem};
 use system_model::System;
-use test_rows::{RowError, number};
+use test_rows::{RowError, number, spelled};
 
 /// A folder from run to run, the lines of the next run, and lines that look at what is left.
 #[derive(Drop)]
@@ -33,7 +33,7 @@ impl Session {
         let (word, rest) = parted(row);
         match word {
             "folder" => *self = Session::new(self.alloc),
-            ">" => push_line(&mut self.lines, rest)?,
+            ">" => push_line(&mut self.lines, &spelled(self.alloc, rest)?)?,
             "?" => push_line(&mut self.look, rest)?,
             "spoil" => self.spoil(rest)?,
             "run" => return Ok(self.run(migrations, rest)?),

@@ -1,4 +1,5 @@
 pub mod Changes
+pub mod Fronts
 pub mod KeyElements
 pub mod KeyStates
 pub mod Picked

@@ -1,6 +1,7 @@
 pub mod Both
 pub mod Changing
 pub mod Differing
+pub mod Fronts
 pub mod Opened
 pub mod Ordered
 pub mod Picked

@@ -4,10 +4,10 @@
 //! so that discarding all pending changes, removing all keys and marking all as synchronised do not allocate. The
 //! number and the size of the visible keys are kept, never recounted.
 //!
-//! A map holds encodings, each beside the value that it encodes ([`StoredValue`]): a value is decoded once, when it
-//! comes from the disk, and encoded once, when it is put. What comes from the disk is judged: bytes that encode no
-//! value are unreadable, and no salvage. What a sync writes ([`KeyMaps::changes`]) is exactly what differs between
-//! the maps.
+//! A map holds encodings ([`StoredValue`]), since the tree of a value takes many times the memory of its bytes: a value
+//! is decoded where it is asked for, and encoded once, when it is put. What comes from the disk is judged: bytes that
+//! encode no value are unreadable, and no salvage. What a sync writes ([`KeyMaps::changes`]) is exactly what differs
+//! between the maps.
 #![tactic(auto)]
 
 mod extents;
@@ -16,6 +16,7 @@ mod key_states;
 mod maps;
 mod opening;
 mod stored;
+mod type_codes;
 
 pub use key_elements::{KeyContent, KeyElement};
 pub use maps::{KEYS, KeyMaps, STORAGE_BYTES};

@@ -1,49 +1,65 @@
-//! A value beside its encoding.
+//! A value as its encoding.
 
-ghost use Rattle.std.specs.Prelude.{◌≡◌, ◌≤◌, IfOk, IsTrue, None, OnOk, Some, length};
+ghost use Rattle.std.specs.Prelude.{◌≡◌, ◌≤◌, ◌↔◌, IfOk, IfSome, IsTrue, None, OnOk, Some, length, option_map};
 ghost use Rattle.value_code.specs.Reading.{decoded, is_encoding};
 ghost use Rattle.value_model.specs.Encoding.{encoding};
+ghost use Rattle.value_model.specs.Trees.{type_of};
 ghost use Rattle.value_model.specs.Validity.{IsValue};
+ghost use Rattle.key_maps.specs.KeyElements.{IsStoredValue};
 
+use crate::type_codes::has_type_of;
 use per_base::Bytes;
 use std::alloc::{AllocError, Global};
+use std::cell::OnceCell;
 use std::marker::Model;
-use value_code::{decode, decoded_is_exact, encode, encoding_lengths};
-use value_model::{DecodeError, Value};
+use value_code::{decode, decoded_is_exact, encode};
+use value_model::{DecodeError, Node, Value};
 
-/// A value and its encoding, which contracts see.
+/// A value, kept as its encoding, which contracts see: the tree of a text, of bytes, of a list or of a group may take
+/// many times the memory of its bytes, so it is made where it is asked for. A scalar keeps its tree beside the bytes.
 #[derive(Drop)]
 pub struct StoredValue {
     bytes: Bytes,
-    value: Value,
+    scalar: Option<Value>,
+    lent: OnceCell<Box<Lent>>,
 }
 
 impl Model for StoredValue {
-    ghost use Rattle.std.specs.Prelude.{ℕ, List};
+    ghost use Rattle.std.specs.Prelude.{ℕ, List, IfSome, IsTrue};
+    ghost use Rattle.value_code.specs.Reading.{is_encoding};
     ghost use Rattle.key_maps.specs.KeyElements.{IsStoredValue};
 
     ghost Value = { List ℕ };
 
     ghost view = { λ s. s.bytes };
 
-    ghost invariant = { λ s. IsStoredValue s.bytes s.value };
+    ghost invariant = { λ s. IsTrue (is_encoding s.bytes) × IfSome s.scalar (λ value. IsStoredValue s.bytes value) };
 }
 
 impl StoredValue {
-    /// The value with its encoding.
-    pub fn new(alloc: Global, value: Value) -> Result<StoredValue, AllocError>
-        ensures { IfOk result (λ stored. stored ≡ encoding value) }
+    /// The encoding of a value.
+    pub fn new(alloc: Global, value: &Value) -> Result<StoredValue, AllocError>
+        ensures { IfOk result (λ stored. stored ≡ encoding value.now) }
     {
         let _valid = value.node();
         decoded_is_exact();
-        let bytes = encode(alloc, &value)?;
+        let bytes = Bytes::new(encode(alloc, value)?);
+        StoredValue::of(alloc, bytes, value)
+    }
+
+    /// The bytes, which encode this value.
+    fn of(alloc: Global, bytes: Bytes, value: &Value) -> Result<StoredValue, AllocError>
+        requires { IsStoredValue bytes value.now }
+        ensures { IfOk result (λ stored. stored ≡ bytes) }
+    {
         Ok(StoredValue {
-            bytes: Bytes::new(bytes),
-            value,
+            bytes,
+            scalar: scalar_of(alloc, value)?,
+            lent: OnceCell::new(),
         })
     }
 
-    /// The value that the bytes encode, with them.
+    /// A copy of the bytes, where they encode a value.
     ///
     /// # Errors
     ///
@@ -57,20 +73,54 @@ impl StoredValue {
     {
         let value = decode(alloc, bytes)?;
         let copy = Vec::from_slice(alloc, bytes)?;
-        Ok(StoredValue {
-            bytes: Bytes::new(copy),
-            value,
-        })
+        Ok(StoredValue::of(alloc, Bytes::new(copy), &value)?)
     }
 
-    /// The value.
-    pub fn value(&self) -> &Value
+    /// The value, anew; the error says that memory ran out.
+    pub fn value(&self, alloc: Global) -> Result<Value, AllocError>
         // The encoding decodes to this value, this value encodes to it, and it is a valid one.
-        ensures reads { decoded self.now ≡ Some result.now }
-        ensures writes { self.now ≡ encoding result.now }
-        ensures valid { IsValue result.now }
+        ensures reads { IfOk result (λ value. decoded self.now ≡ Some value) }
+        ensures writes { IfOk result (λ value. self.now ≡ encoding value) }
+        ensures valid { IfOk result (λ value. IsValue value) }
+        // There always is one.
+        ensures readable { IsTrue (is_encoding self.now) }
     {
-        &self.value
+        if let Some(scalar) = &self.scalar {
+            return scalar.copy(alloc);
+        }
+        match decode(alloc, self.bytes.as_slice()) {
+            Ok(value) => Ok(value),
+            Err(_) => Err(AllocError),
+        }
+    }
+
+    /// The value, lent: its tree then stays beside the bytes as long as these stay. The error says that memory ran out.
+    pub fn lend(&self, alloc: Global) -> Result<&Value, AllocError>
+        // The encoding decodes to this value, this value encodes to it, and it is a valid one.
+        ensures reads { IfOk result (λ value. decoded self.now ≡ Some value.now) }
+        ensures writes { IfOk result (λ value. self.now ≡ encoding value.now) }
+        ensures valid { IfOk result (λ value. IsValue value.now) }
+        // There always is one.
+        ensures readable { IsTrue (is_encoding self.now) }
+    {
+        if let Some(scalar) = &self.scalar {
+            return Ok(scalar);
+        }
+        let lent = self.lent.get_or_try_init(|| Lent::new(alloc, self))?;
+        if lent.as_slice() != self.bytes.as_slice() {
+            return Err(AllocError);
+        }
+        Ok(lent.value())
+    }
+
+    /// Whether the value has the type of the other one. Does not allocate.
+    pub fn has_type_of(&self, other: &Value) -> bool
+        // The type of the value is that of the other one.
+        ensures same { IsTrue result ↔ (option_map type_of (decoded self.now) ≡ Some (type_of other.now)) }
+        // There always is a value.
+        ensures readable { IsTrue (is_encoding self.now) }
+    {
+        has_type_of(self.bytes.as_slice(), other)
     }
 
     /// The encoding.
@@ -94,8 +144,6 @@ impl StoredValue {
         ensures short { result ≤ 65536 }
         ensures readable { IsTrue (is_encoding self.now) }
     {
-        let _value = self.value();
-        encoding_lengths();
         self.bytes.len() as u32
     }
 
@@ -103,9 +151,62 @@ impl StoredValue {
     pub fn copy(&self, alloc: Global) -> Result<StoredValue, AllocError>
         ensures { IfOk result (λ copy. copy ≡ self.now) }
     {
-        match StoredValue::read(alloc, self.as_slice()) {
-            Ok(copy) => Ok(copy),
-            Err(_) => Err(AllocError),
-        }
+        let scalar = match &self.scalar {
+            Some(scalar) => Some(scalar.copy(alloc)?),
+            None => None,
+        };
+        Ok(StoredValue {
+            bytes: self.bytes.copy()?,
+            scalar,
+            lent: OnceCell::new(),
+        })
+    }
+}
+
+/// A copy of the value, where it is a truth value or a number.
+fn scalar_of(alloc: Global, value: &Value) -> Result<Option<Value>, AllocError>
+    ensures { IfOk result (λ scalar. IfSome scalar (λ copy. copy ≡ value.now)) }
+{
+    match value.node() {
+        Node::Text(_) | Node::Bytes(_) | Node::List(_, _) | Node::Fields(_) => Ok(None),
+        _ => Ok(Some(value.copy(alloc)?)),
+    }
+}
+
+/// A value that is lent, and its encoding, which contracts see.
+#[derive(Drop)]
+struct Lent {
+    bytes: Bytes,
+    value: Value,
+}
+
+impl Model for Lent {
+    ghost use Rattle.std.specs.Prelude.{ℕ, List};
+    ghost use Rattle.key_maps.specs.KeyElements.{IsStoredValue};
+
+    ghost Value = { List ℕ };
+
+    ghost view = { λ l. l.bytes };
+
+    ghost invariant = { λ l. IsStoredValue l.bytes l.value };
+}
+
+impl Lent {
+    fn new(alloc: Global, stored: &StoredValue) -> Result<Box<Lent>, AllocError> {
+        let bytes = stored.copy_bytes()?;
+        let value = stored.value(alloc)?;
+        Ok(Box::new(alloc, Lent { bytes, value })?)
+    }
+
+    fn as_slice(&self) -> &[u8]
+        ensures { result.now ≡ self.now }
+    {
+        self.bytes.as_slice()
+    }
+
+    fn value(&self) -> &Value
+        ensures { IsStoredValue self.now result.now }
+    {
+        &self.value
     }
 }

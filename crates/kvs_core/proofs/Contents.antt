@@ -1,7 +1,8 @@
 -- What is read of a content.
-use Rattle.std.proofs.Common.{◌≡◌, ◌<◌, ◌&&◌, ◌∙◌, ℕ, List, length, Bool, true, false, cond, not, refl, sym, subst}
+use Rattle.std.proofs.Common.{◌≡◌, ◌<◌, ◌&&◌, ◌∙◌, ℕ, List, length, Bool, true, false, cond, not, refl, sym, ap, subst}
 use Rattle.std.proofs.Common.{arith}
-use Rattle.std.specs.Prelude.{Some, None, Result, Ok, Err, IfErr, IsErr, IsErrAnd, nat_le}
+use Rattle.std.specs.Prelude.{◌↔◌, Option, Some, None, Result, Ok, Err, IfErr, IsErr, IsErrAnd, IsTrue, is_some}
+use Rattle.std.specs.Prelude.{nat_le, option_map}
 use Rattle.std.proofs.lemmas.Bool.Decides.{nat_tests}
 use Rattle.per_base.specs.declared.elements.Content.{Content}
 use Rattle.per_base.specs.declared.elements.Content.TheVariants.{Good, Bad}
@@ -11,46 +12,68 @@ use Rattle.per_base.specs.declared.errors.PerError.{PerError}
 use Rattle.per_base.specs.declared.errors.PerError.TheVariants.{IntegrityCorrupted, LimitReached}
 use Rattle.per_base.specs.declared.errors.Unit.TheVariants.{Part}
 use Rattle.per_base.specs.Maps.{Map, element_at, has, with_element}
-use Rattle.per_base.specs.Refusals.{IsRefusal, IsTextRefusal, NeedsMemory}
+use Rattle.per_base.specs.Refusals.{IsRefusal, NeedsMemory}
 use Rattle.value_model.specs.Kinds.{Kind, same_kind}
 use Rattle.value_model.specs.Trees.{Tree, type_of}
-use Rattle.value_code.specs.Reading.{decoded}
+use Rattle.value_code.specs.Reading.{decoded, is_encoding}
 use Rattle.value_text.specs.Texts.{mismatch}
+use Rattle.value_text.specs.lemmas.LimitLaws.{same_kind-self, same_kind-true}
 use Rattle.deployment_model.specs.Data.{StorageData}
 use Rattle.deployment_model.specs.Lookups.{initial_content}
 use Rattle.key_maps.specs.KeyElements.{key_of}
 use Rattle.key_maps.specs.Shown.{good_bytes}
-use Rattle.kvs_core.specs.Calls.{as_kind, get_any, get_as, read_key, reset_key, stored_kind, with_placed}
-use Rattle.kvs_core.specs.Calls.{unless_differ, unless_refused, unless_typed, with_place, with_room}
+use Rattle.kvs_core.specs.Calls.{as_kind, get_any, get_as, read_key, readable_value, reset_key, stored_kind}
+use Rattle.kvs_core.specs.Calls.{unless_differ, unless_refused, unless_typed, with_place, with_placed, with_room}
 
-pub read_stored : (c : StorageData) (name : List ℕ) (content : Content) (bytes : List ℕ) (value : Tree)
-    → Some bytes ≡ good_bytes content → decoded bytes ≡ Some value → read_key c name content ≡ Ok value
-read_stored c name (Good there) bytes value is reads = let same : there ≡ bytes = cc in rw (same, reads) refl
-read_stored c name (Bad salvage) bytes value is reads = absurd (cc)
+pub read_stored : (c : StorageData) (name : List ℕ) (content : Content) (bytes : List ℕ)
+    → Some bytes ≡ good_bytes content → read_key c name content ≡ readable_value (decoded bytes)
+read_stored c name (Good there) bytes is = let same : there ≡ bytes = cc in rw same refl
+read_stored c name (Bad salvage) bytes is = absurd (cc)
 
 pub read_bad : (c : StorageData) (name : List ℕ) (content : Content) → None ≡ good_bytes content
     → read_key c name content ≡ Err (IntegrityCorrupted (Part c.name name))
 read_bad c name (Good there) is = absurd (cc)
 read_bad c name (Bad salvage) is = refl
 
-kind_stored : (content : Content) (bytes : List ℕ) (value : Tree) → Some bytes ≡ good_bytes content
-    → decoded bytes ≡ Some value → stored_kind content ≡ Some (type_of value)
-kind_stored (Good there) bytes value is reads = let same : there ≡ bytes = cc in rw (same, reads) refl
-kind_stored (Bad salvage) bytes value is reads = absurd (cc)
+kind_stored : (content : Content) (bytes : List ℕ) → Some bytes ≡ good_bytes content
+    → stored_kind content ≡ option_map type_of (decoded bytes)
+kind_stored (Good there) bytes is = let same : there ≡ bytes = cc in rw same refl
+kind_stored (Bad salvage) bytes is = absurd (cc)
 
-module _ (content : Content) (bytes : List ℕ) (stored : Tree) (asked : Kind) (is : Some bytes ≡ good_bytes content)
-    (reads : decoded bytes ≡ Some stored) (rest : Result Map PerError) where
-  pub same_typed : (same : Bool) → same ≡ same_kind (type_of stored) asked → same ≡ true
-      → unless_typed (stored_kind content) asked rest ≡ rest
-  same_typed same tests holds =
-      let here : same_kind (type_of stored) asked ≡ true = sym tests ∙ holds in
-      rw (kind_stored content bytes stored is reads, here) refl
+abbrev HasKind : List ℕ → Kind → Type 0
+HasKind bytes asked = option_map type_of (decoded bytes) ≡ Some asked
 
-  pub other_typed : (same : Bool) → same ≡ same_kind (type_of stored) asked → same ≡ false
+-- a value for a key that has one of the same type, or of another
+module _ (content : Content) (bytes : List ℕ) (asked : Kind) (is : Some bytes ≡ good_bytes content)
+    (rest : Result Map PerError) where
+  pub same_typed : HasKind bytes asked → unless_typed (stored_kind content) asked rest ≡ rest
+  same_typed same = rw (kind_stored content bytes is, same, same_kind-self asked) refl
+
+  pub other_typed : (stored : Tree) → decoded bytes ≡ Some stored → ¬ HasKind bytes asked
       → unless_typed (stored_kind content) asked rest ≡ Err (mismatch (type_of stored) asked)
-  other_typed same tests fails =
-      let here : same_kind (type_of stored) asked ≡ false = sym tests ∙ fails in
-      rw (kind_stored content bytes stored is reads, here) refl
+  other_typed stored reads other = by (same_kind (type_of stored) asked) refl
+    where
+      by : (same : Bool) → same_kind (type_of stored) asked ≡ same
+          → unless_typed (stored_kind content) asked rest ≡ Err (mismatch (type_of stored) asked)
+      by true e =
+          let there : HasKind bytes asked =
+          ap (option_map type_of) reads ∙ ap (λ (k : Kind). Some k) (same_kind-true (type_of stored) asked e) in
+          absurd (other there)
+      by false e = rw (kind_stored content bytes is, reads, e) refl
+
+  pub typed_needs : IsTrue (is_encoding bytes) → ¬ HasKind bytes asked
+      → NeedsMemory (unless_typed (stored_kind content) asked rest)
+  typed_needs encodes other = by (decoded bytes) refl encodes
+    where
+      by : (read : Option Tree) → decoded bytes ≡ read → IsTrue (is_some read)
+          → NeedsMemory (unless_typed (stored_kind content) asked rest)
+      by None reads some = absurd (cc)
+      by (Some stored) reads some =
+          subst (λ (due : Result Map PerError). NeedsMemory due) (sym (other_typed stored reads other)) tt
+
+-- what a test that failed says
+pub untrue : {P : Type 0} (answer : Bool) → (IsTrue answer ↔ P) → answer ≡ false → ¬ P
+untrue answer both fails holds = let is : IsTrue answer = both.1 holds in absurd (cc (is, fails))
 
 pub kind_bad : (content : Content) → None ≡ good_bytes content → stored_kind content ≡ None
 kind_bad (Good there) is = absurd (cc)
@@ -71,14 +94,16 @@ pub needs_value : (c : StorageData) (m : Map) (name : List ℕ) (asked : Kind) (
     → get_any c m name ≡ Ok value → NeedsMemory (get_as c m name asked)
 needs_value c m name asked value is = rw is (needs_same (type_of value) asked value)
 
--- what is refused whatever its type stays refused
-pub text_kept : (asked : Kind) (due : Result Tree PerError) → IsTextRefusal due → IsTextRefusal (as_kind asked due)
-text_kept asked (Ok value) is = absurd is
-text_kept asked (Err error) is = is
+-- what a call needs memory for whatever the type, it does for this one
+pub needs_kept : (asked : Kind) (due : Result Tree PerError) → NeedsMemory due → NeedsMemory (as_kind asked due)
+needs_kept asked (Ok value) needs = needs_same (type_of value) asked value
+needs_kept asked (Err error) needs = needs
 
-pub text_needs : (asked : Kind) (due : Result Tree PerError) → IsTextRefusal due → NeedsMemory (as_kind asked due)
-text_needs asked (Ok value) is = absurd is
-text_needs asked (Err error) is = is
+-- a value is there to be read
+pub reads_needs : (due : Result Tree PerError) (read : Option Tree) → due ≡ readable_value read
+    → IsTrue (is_some read) → NeedsMemory due
+reads_needs due None is some = absurd (cc)
+reads_needs due (Some value) is some = subst (λ (r : Result Tree PerError). NeedsMemory r) (sym is) tt
 
 -- a name that is there has a place
 pub there : (m : Map) (name : List ℕ) (key : Element) → element_at m name ≡ Some key → with_place m name (Ok m) ≡ Ok m

@@ -7,7 +7,8 @@
 //! Each call answers by the function of its name in `specs/Calls`, every refusal in its order with what it carries;
 //! refused, or out of memory, it changes nothing. A key is *visible* where calls see it, *unreadable* where too few
 //! copies agree on its bytes or these encode no value; its *salvage* is a value that is left. Reading and writing a key
-//! take logarithmic time in the number of keys, at most 1,024, which never take more than the storage is allowed.
+//! take logarithmic time in the number of keys, at most 1,024, which never take more than the storage is allowed. A key
+//! keeps its encoding alone, and is decoded at each reading; [`KeySession::get_any`] alone leaves a tree beside it.
 //!
 //! Words of the contracts: `calls` is `specs/Calls`; `refused` says that an error is the one that is due, or
 //! `OutOfMemory`; `memory` when it can be that; `beside` that all but the visible keys stays; `unchanged` that an error
@@ -17,7 +18,6 @@
 
 mod reading;
 mod restoring;
-mod same_types;
 mod session;
 mod syncing;
 mod typing;

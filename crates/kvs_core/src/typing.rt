@@ -12,7 +12,6 @@ ghost use Rattle.value_model.specs.Trees.{type_of};
 ghost use Rattle.value_model.specs.Views.{kind_of};
 ghost use Rattle.kvs_core.specs.Calls as calls;
 
-use crate::same_types::have_same_type;
 use crate::session::KeySession;
 use key_maps::KeyElement;
 use per_base::{Name, PerError, ValueText};
@@ -156,10 +155,12 @@ impl KeySession {
         let Some(stored) = key.stored() else {
             return Ok(());
         };
-        let stored = stored.value();
-        if have_same_type(stored, value) {
+        if stored.has_type_of(value) {
             return Ok(());
         }
-        Err(self.values_differ(stored, value))
+        match stored.value(self.alloc) {
+            Ok(stored) => Err(self.values_differ(&stored, value)),
+            Err(_) => Err(PerError::OutOfMemory),
+        }
     }
 }

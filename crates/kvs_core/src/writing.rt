@@ -16,7 +16,6 @@ use crate::session::KeySession;
 use key_maps::{KEYS, KeyElement, StoredValue};
 use per_base::{Limit, Name, PerError, element_size};
 use per_value::PerValue;
-use std::mem;
 use value_model::{Value, ValueError};
 
 impl KeySession {
@@ -28,7 +27,6 @@ impl KeySession {
     /// configured one, or for a key that is not configured from that of its visible readable value; `LimitReached` with
     /// `Elements` where the name is not visible and 1,024 are; `OutOfStorageSpace` where the visible size would exceed
     /// the maximum, with both numbers; `OutOfMemory`.
-    #[tactic(auto, using(crate::proofs::Contents::needs_done))]
     pub fn set_any(&mut self, name: &Name, value: Value) -> Result<(), PerError>
         // The visible map is then what `set_any` makes of it, or the refusal that is due is given.
         ensures ok { OnOk result (calls.set_any self.old.config self.old.visible name.now value ≡ Ok self.new.visible) }
@@ -40,15 +38,11 @@ impl KeySession {
         ensures beside { self.new ≡ record self.old { visible = self.new.visible } }
         ensures unchanged { OnErr result (self.new ≡ self.old) }
     {
-        if let Err(error) = self.check_any(name, &value) {
-            mem::drop(value);
-            return Err(error);
-        }
-        self.write(name, value)
+        self.set_copy(name, &value)
     }
 
-    /// Sets a key to a copy of a value, which is made once nothing can refuse it. The key is created where the name is
-    /// not visible.
+    /// Sets a key to a value, which is encoded once nothing can refuse it. The key is created where the name is not
+    /// visible.
     ///
     /// # Errors
     ///
@@ -70,10 +64,7 @@ impl KeySession {
         ensures unchanged { OnErr result (self.new ≡ self.old) }
     {
         self.check_any(name, value)?;
-        match value.copy(self.alloc) {
-            Ok(copy) => self.write(name, copy),
-            Err(_) => Err(PerError::OutOfMemory),
-        }
+        self.write(name, value)
     }
 
     /// Sets a key to a value of a Rust type. The key is created where the name is not visible.
@@ -174,12 +165,12 @@ impl KeySession {
     }
 
     /// Sets a key to a value, which fits. The key is visible, or one more is allowed.
-    fn write(&mut self, name: &Name, value: Value) -> Result<(), PerError>
+    fn write(&mut self, name: &Name, value: &Value) -> Result<(), PerError>
         requires place { element_at self.old.visible name.now ≡ None → length self.old.visible < KEYS }
-        requires room { size_of (with_element self.old.visible name.now (key_of (encoding value)))
+        requires room { size_of (with_element self.old.visible name.now (key_of (encoding value.now)))
             ≤ self.old.config.maximum }
         ensures ok { OnOk result (self.new ≡ record self.old {
-          visible = with_element self.old.visible name.now (key_of (encoding value));
+          visible = with_element self.old.visible name.now (key_of (encoding value.now));
         }) }
         ensures memory { IfErr result (λ error. error ≡ PerError.OutOfMemory) }
         ensures unchanged { OnErr result (self.new ≡ self.old) }

@@ -3,3 +3,8 @@ pub mod Next
 pub mod SameKinds
 pub mod Standing
 pub mod Stops
+pub mod Spans
+pub mod ChangedValues
+pub mod Blanks
+pub mod Thirds
+pub mod OnePut

@@ -1,2 +1,4 @@
 pub mod Values
 pub mod Laws
+pub mod Costs
+pub mod CostSamples

@@ -2,7 +2,7 @@
 
 ghost use Rattle.std.specs.Prelude.{◌≡◌, IfErr, IfOk, IsTrue};
 ghost use Rattle.per_base.specs.Maps.{has, names_of, size_of};
-ghost use Rattle.per_base.specs.Refusals.{IsRefusal, IsTextRefusal, NeedsMemory};
+ghost use Rattle.per_base.specs.Refusals.{IsRefusal, NeedsMemory};
 ghost use Rattle.value_model.specs.Kinds.{kind_fits};
 ghost use Rattle.value_model.specs.Validity.{IsValue};
 ghost use Rattle.value_model.specs.Views.{kind_of};
@@ -43,7 +43,7 @@ impl Kvs {
         self.session.current_size()
     }
 
-    /// The value of a key.
+    /// The value of a key, lent: its tree then stays in memory as long as the key stays as it is.
     ///
     /// # Errors
     ///
@@ -55,34 +55,53 @@ impl Kvs {
         ensures valid { IfOk result (λ value. IsValue value.now) }
         ensures refused { IfErr result (λ error.
             IsRefusal (calls.get_any (kvs_session self.now).config (kvs_session self.now).visible name.now) error) }
-        // Memory runs out only for the names in `IntegrityCorrupted`: a value and `KeyNotFound` allocate nothing.
+        // Memory runs out for the value, or for the names in `IntegrityCorrupted`: `KeyNotFound` allocates nothing.
         ensures memory { IfErr result (λ error. error ≡ PerError.OutOfMemory
-            → IsTextRefusal (calls.get_any (kvs_session self.now).config (kvs_session self.now).visible name.now)) }
+            → NeedsMemory (calls.get_any (kvs_session self.now).config (kvs_session self.now).visible name.now)) }
     {
         self.session.get_any(name)
     }
 
-    /// The value of a key, asked for by its type.
+    /// The value of a key, decoded anew.
+    ///
+    /// # Errors
+    ///
+    /// `KeyNotFound` where it is not visible; `IntegrityCorrupted` where it is unreadable; `OutOfMemory`.
+    pub fn get_copy(&self, name: &Name) -> Result<Value, PerError>
+        // The value, which is a valid one, or the refusal that is due.
+        ensures ok { IfOk result (λ value.
+            calls.get_any (kvs_session self.now).config (kvs_session self.now).visible name.now ≡ Ok value) }
+        ensures valid { IfOk result (λ value. IsValue value) }
+        ensures refused { IfErr result (λ error.
+            IsRefusal (calls.get_any (kvs_session self.now).config (kvs_session self.now).visible name.now) error) }
+        // Memory runs out for the value, or for the names in `IntegrityCorrupted`: `KeyNotFound` allocates nothing.
+        ensures memory { IfErr result (λ error. error ≡ PerError.OutOfMemory
+            → NeedsMemory (calls.get_any (kvs_session self.now).config (kvs_session self.now).visible name.now)) }
+    {
+        self.session.get_copy(name)
+    }
+
+    /// The value of a key, decoded anew, asked for by its type.
     ///
     /// # Errors
     ///
     /// `KeyNotFound` where the name is not visible; `IntegrityCorrupted` where the key is unreadable;
-    /// `DataTypeMismatch` with the stored and the asked type where they differ; `OutOfMemory`, and this only
-    /// instead of a refusal that carries names or texts.
-    pub fn get_as(&self, name: &Name, asked: &ValueType) -> Result<&Value, PerError>
+    /// `DataTypeMismatch` with the stored and the asked type where they differ; `OutOfMemory`, for the value or for a
+    /// refusal that carries names or texts.
+    pub fn get_as(&self, name: &Name, asked: &ValueType) -> Result<Value, PerError>
         // In the asked type each group of fields has 1 to 32 members.
         requires { IsTrue (kind_fits (kind_of asked.now)) }
         // The value, or the refusal that is due: what `get_as` of the visible keys gives for the asked type.
         ensures ok { IfOk result (λ value.
             calls.get_as (kvs_session self.now).config (kvs_session self.now).visible name.now (kind_of asked.now)
-            ≡ Ok value.now) }
-        ensures valid { IfOk result (λ value. IsValue value.now) }
+            ≡ Ok value) }
+        ensures valid { IfOk result (λ value. IsValue value) }
         ensures refused { IfErr result (λ error.
             IsRefusal (calls.get_as (kvs_session self.now).config (kvs_session self.now).visible name.now
             (kind_of asked.now)) error) }
-        // Memory runs out only for the names or types in a refusal.
+        // Memory runs out for the value, or for the names or types in a refusal.
         ensures memory { IfErr result (λ error. error ≡ PerError.OutOfMemory
-            → IsTextRefusal (calls.get_as (kvs_session self.now).config (kvs_session self.now).visible name.now
+            → NeedsMemory (calls.get_as (kvs_session self.now).config (kvs_session self.now).visible name.now
             (kind_of asked.now))) }
     {
         self.session.get_as(name, asked)

@@ -40,8 +40,8 @@ impl Kvs {
         self.session.set_any(name, value)
     }
 
-    /// Sets a key to a copy of a value, which is made once nothing can refuse it. The key is created where the name is
-    /// not visible.
+    /// Sets a key to a value, which is encoded once nothing can refuse it. The key is created where the name is not
+    /// visible.
     ///
     /// # Errors
     ///

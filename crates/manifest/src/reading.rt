@@ -1,6 +1,6 @@
 //! Reading a manifest.
 
-ghost use Rattle.std.specs.Prelude.{◌≡◌, ◌≢◌, None, Some, IfErr, IfOk, OnOk};
+ghost use Rattle.std.specs.Prelude.{◌≡◌, ◌≢◌, None, Some, IfErr, IfOk, IsErrOf, IsTrue, OnOk};
 ghost use Rattle.serde_json.specs.View.{view};
 ghost use Rattle.deployment_model.specs.Conditions.{IsDeployment};
 ghost use Rattle.deployment_model.specs.Data.{deployment_data};
@@ -37,6 +37,9 @@ pub fn read_manifest(alloc: Global, bytes: &[u8]) -> Result<Deployment, Manifest
 
     // what is read obeys the rules of deployments
     ensures keeps { IfOk result (λ d. IsDeployment (deployment_data d)) }
+
+    // a text that is too long is rejected, however little memory there is
+    ensures memory { IsErrOf result ManifestError.OutOfMemory → IsTrue (is_short bytes.now) }
 {
     read_text(alloc, bytes)
 }
@@ -45,6 +48,7 @@ pub fn read_manifest(alloc: Global, bytes: &[u8]) -> Result<Deployment, Manifest
 fn read_text(alloc: Global, bytes: &[u8]) -> Result<Deployment, ManifestError>
     ensures judged { Judges result (broken_rule bytes.now) }
     ensures said { IfOk result (λ d. deployment_in bytes.now ≡ Some (deployment_data d)) }
+    ensures memory { IsErrOf result ManifestError.OutOfMemory → IsTrue (is_short bytes.now) }
 {
     if !is_short(bytes) {
         return Err(ManifestError::Rejected(1));

@@ -12,7 +12,6 @@ use crate::with_files::answer_files;
 use crate::with_keys::answer_keys;
 use command_text::{Answer, Call};
 use per_base::PerError;
-use std::alloc::Global;
 
 impl Open {
     /// Answers a call that touches no disk, at a moment in seconds. The storage that the call names is taken to be this
@@ -23,7 +22,7 @@ impl Open {
     /// Those of the call, in their order, and then nothing changes; `StorageNotFound` for every call that does not come
     /// to an open storage of this kind; `OutOfMemory`, but never in the place of a refusal without names or texts.
     #[tactic(auto, using(crate::proofs::Rows::answered_ok, crate::proofs::Rows::answered_refused))]
-    pub fn call(&mut self, alloc: Global, now: u64, call: &Call) -> Result<Answer, PerError>
+    pub fn call(&mut self, now: u64, call: &Call) -> Result<Answer, PerError>
         // The row `in_session` gives the answer and the session then; a refusal is the row's, or `OutOfMemory` where
         // the call needs memory, never that the device failed, and changes nothing. The configuration and what is
         // synchronised stay.
@@ -41,7 +40,7 @@ impl Open {
         ensures synced { synced_in_session (session_in self.new) ≡ synced_in_session (session_in self.old) }
     {
         match self {
-            Open::Keys(kvs) => answer_keys(kvs, alloc, call),
+            Open::Keys(kvs) => answer_keys(kvs, call),
             Open::Files(files) => answer_files(files, now, call),
         }
     }

@@ -1,22 +1,19 @@
 //! The calls on keys.
 
-ghost use Rattle.std.specs.Prelude.{◌≡◌, IfErr, IfOk, Ok};
-ghost use Rattle.per_base.specs.Refusals.{IsRefusal, NeedsMemory};
-ghost use Rattle.kvs_core.specs.Calls as calls;
-ghost use Rattle.kvs_store.specs.Storages.{kvs_session, showing};
+ghost use Rattle.std.specs.Prelude.{◌≡◌, IfErr};
+ghost use Rattle.per_base.specs.Refusals.{NeedsMemory};
+ghost use Rattle.kvs_store.specs.Storages.{showing};
 ghost use Rattle.run_model.specs.Sessions.{on_keys};
 ghost use Rattle.open_storages.specs.Answers.{IsAnsweredAsRow};
 ghost use Rattle.open_storages.specs.Opens.{keys_of};
 
-use command_text::{Answer, AskedType, Call};
+use command_text::{Answer, Call};
 use kvs_store::Kvs;
-use per_base::{Name, PerError, Sequence};
-use std::alloc::Global;
-use value_model::Value;
+use per_base::{PerError, Sequence};
 
 /// Answers a call on keys.
 #[tactic(auto, using(crate::proofs::Rows::refused_then, crate::proofs::Rows::due_then, crate::proofs::Rows::answered_then), unfolding(run_model::specs::Sessions::on_keys))]
-pub(crate) fn answer_keys(kvs: &mut Kvs, alloc: Global, call: &Call) -> Result<Answer, PerError>
+pub(crate) fn answer_keys(kvs: &mut Kvs, call: &Call) -> Result<Answer, PerError>
     ensures answered { IsAnsweredAsRow (on_keys kvs.old.config (keys_of kvs.old) call.now) (keys_of kvs.old)
         (keys_of kvs.new) result }
     ensures memory { IfErr result (λ error. error ≡ PerError.OutOfMemory
@@ -27,8 +24,8 @@ pub(crate) fn answer_keys(kvs: &mut Kvs, alloc: Global, call: &Call) -> Result<A
         Call::Size(_) => Ok(Answer::Number(kvs.current_size())),
         Call::Keys(_) => Ok(Answer::Names(Sequence::new(kvs.all_keys()?))),
         Call::Exists(_, key) => Ok(Answer::Truth(kvs.key_exists(key))),
-        Call::Get(_, key) => Ok(Answer::Val(value_of(kvs, alloc, key)?)),
-        Call::GetAs(_, key, asked) => Ok(Answer::Val(value_as(kvs, alloc, key, asked)?)),
+        Call::Get(_, key) => Ok(Answer::Val(kvs.get_copy(key)?)),
+        Call::GetAs(_, key, asked) => Ok(Answer::Val(kvs.get_as(key, asked.value_type())?)),
         Call::Set(_, key, value) => {
             kvs.set_copy(key, value)?;
             Ok(Answer::Done)
@@ -54,38 +51,5 @@ pub(crate) fn answer_keys(kvs: &mut Kvs, alloc: Global, call: &Call) -> Result<A
             Ok(Answer::Done)
         }
         _ => Err(PerError::StorageNotFound),
-    }
-}
-
-/// A copy of the value of a key.
-fn value_of(kvs: &Kvs, alloc: Global, key: &Name) -> Result<Value, PerError>
-    ensures ok { IfOk result (λ value. calls.get_any kvs.now.config kvs.now.session.visible key.now ≡ Ok value) }
-    ensures refused { IfErr result (λ error. IsRefusal (calls.get_any kvs.now.config kvs.now.session.visible key.now)
-        error) }
-    ensures memory { IfErr result (λ error. error ≡ PerError.OutOfMemory
-        → NeedsMemory (calls.get_any kvs.now.config kvs.now.session.visible key.now)) }
-{
-    copy_of(alloc, kvs.get_any(key)?)
-}
-
-/// A copy of the value of a key, asked for by its type.
-fn value_as(kvs: &Kvs, alloc: Global, key: &Name, asked: &AskedType) -> Result<Value, PerError>
-    ensures ok { IfOk result (λ value. calls.get_as kvs.now.config kvs.now.session.visible key.now asked.now
-        ≡ Ok value) }
-    ensures refused { IfErr result (λ error. IsRefusal (calls.get_as kvs.now.config kvs.now.session.visible key.now
-        asked.now) error) }
-    ensures memory { IfErr result (λ error. error ≡ PerError.OutOfMemory
-        → NeedsMemory (calls.get_as kvs.now.config kvs.now.session.visible key.now asked.now)) }
-{
-    copy_of(alloc, kvs.get_as(key, asked.value_type())?)
-}
-
-fn copy_of(alloc: Global, value: &Value) -> Result<Value, PerError>
-    ensures ok { IfOk result (λ copy. copy ≡ value.now) }
-    ensures memory { IfErr result (λ error. error ≡ PerError.OutOfMemory) }
-{
-    match value.copy(alloc) {
-        Ok(copy) => Ok(copy),
-        Err(_) => Err(PerError::OutOfMemory),
     }
 }

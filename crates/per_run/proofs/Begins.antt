@@ -3,10 +3,10 @@ use Rattle.std.proofs.Common.{ℕ, List, [], ◌≡◌, refl, sym, subst, inl, O
 use Rattle.std.proofs.KnownBytes.{Appends-nil, Consumes-nil}
 use Rattle.disk_model.specs.Laws.{reads_none}
 use Rattle.disk_model.specs.Medium.{Medium, IsLawful, Elapses}
-use Rattle.migrate_fns.specs.Rules.{Rule, Answers}
 use Rattle.per_base.specs.Causes.{Rose}
 use Rattle.run_model.specs.AppLaws.{AppLaws}
-use Rattle.run_model.specs.Edges.{Converters, Edges, failures_at}
+use Rattle.run_model.specs.Converters.{Converters}
+use Rattle.run_model.specs.Edges.{Edges, failures_at}
 use Rattle.run_model.specs.Endings as endings
 use Rattle.run_model.specs.Endings.{FailureCounts, HasCauseOf, ending_status}
 use Rattle.run_model.specs.RunLaws.{start_disk}
@@ -20,21 +20,21 @@ use Rattle.per_run.proofs.Inputs.{not_seen}
 use Rattle.per_run.proofs.Settings.{setting}
 
 -- nothing is handled yet
-pub handled_none : (told : Bool) (rules : List Rule) (answers : Answers) (now : Option (List ℕ)) (memory : Memory)
+pub handled_none : (told : Bool) (converters : Converters) (now : Option (List ℕ)) (memory : Memory)
     (old new : Medium) → Elapses old new → new.faults ≡ old.faults
-    → (IsTrue told → Starts memory old new) → Handled (setting told rules answers old now) [] now memory new
-handled_none told rules answers now memory old new time passes starts = record {
+    → (IsTrue told → Starts memory old new) → Handled (setting told converters old now) [] now memory new
+handled_none told converters now memory old new time passes starts = record {
   turns = [];
   gives = refl;
   wrote = Appends-nil now;
-  goes = goes_none told rules answers memory old new time passes starts;
+  goes = goes_none told converters memory old new time passes starts;
 }
 
-pub reached_none : (told : Bool) (rules : List Rule) (answers : Answers) (start : Medium) (before now : Option (List ℕ))
+pub reached_none : (told : Bool) (converters : Converters) (start : Medium) (before now : Option (List ℕ))
     (memory : Memory) (medium : Medium) (kept : List ℕ) (number : ℕ)
-    → Handled (setting told rules answers start before) [] now memory medium → kept ≡ [] → number ≡ 0
-    → Reached (setting told rules answers start before) [] now (reading memory kept number) medium
-reached_none told rules answers start before now memory medium kept number handled empty none = record {
+    → Handled (setting told converters start before) [] now memory medium → kept ≡ [] → number ≡ 0
+    → Reached (setting told converters start before) [] now (reading memory kept number) medium
+reached_none told converters start before now memory medium kept number handled empty none = record {
   lines = [];
   rest = [];
   split = refl;
@@ -72,58 +72,60 @@ pub run_none : AppLaws → (told : Bool) (converters : Converters) (status : ℕ
     → (IsTrue told → StartKeeps old new) → status ≡ 3 → Rose old.faults new.faults
     → Run told converters status (still left taken source_failures sink_failures old)
     (still left taken source_failures sink_failures new)
-run_none laws told converters status left taken source_failures sink_failures old new lawful time keeps is rose = record {
-  ending = endings.device;
-  status_is = is;
-  given = [];
-  taken = Consumes-nil left;
-  bound = omega arith;
-  ended = false;
-  end_seen = not_seen;
-  input = (refl, refl);
-  lines = [];
-  turns = [];
-  gives = refl;
-  ends = record { no_line = refl; no_turn = refl; wrote = Appends-nil taken };
-  cause = rose;
-  failures = record { last = old.faults; blamed = refl; later = time.faults; passes = λ apart. absurd (apart refl) };
-  time = time;
-  disk = λ tells. start_disk laws converters.rules converters.answers endings.device taken taken told old new lawful
-      time (λ begun. begun) (keeps tells);
-}
+run_none laws told converters status left taken source_failures sink_failures old new lawful time keeps is
+    rose = record {
+      ending = endings.device;
+      status_is = is;
+      given = [];
+      taken = Consumes-nil left;
+      bound = omega arith;
+      ended = false;
+      end_seen = not_seen;
+      input = (refl, refl);
+      lines = [];
+      turns = [];
+      gives = refl;
+      ends = record { no_line = refl; no_turn = refl; wrote = Appends-nil taken };
+      cause = rose;
+      failures = record { last = old.faults; blamed = refl; later = time.faults; passes = λ apart. absurd (apart refl) };
+      time = time;
+      disk = λ tells. start_disk laws converters endings.device taken taken told old new lawful
+          time (λ begun. begun) (keeps tells);
+    }
 
 pub run_short : AppLaws → (told : Bool) (converters : Converters) (status : ℕ) (left taken : Option (List ℕ))
     (source_failures sink_failures : ℕ) (old new : Medium) → IsLawful told new → Elapses old new
     → (IsTrue told → StartKeeps old new) → status ≡ 4 → new.faults ≡ old.faults
     → Run told converters status (still left taken source_failures sink_failures old)
     (still left taken source_failures sink_failures new)
-run_short laws told converters status left taken source_failures sink_failures old new lawful time keeps is fed = record {
-  ending = endings.start_memory;
-  status_is = is;
-  given = [];
-  taken = Consumes-nil left;
-  bound = omega arith;
-  ended = false;
-  end_seen = not_seen;
-  input = (refl, refl);
-  lines = [];
-  turns = [];
-  gives = refl;
-  ends = record { no_line = refl; no_turn = refl; wrote = Appends-nil taken };
-  cause = fed;
-  failures = record { last = old.faults; blamed = refl; later = time.faults; passes = λ apart. fed };
-  time = time;
-  disk = λ tells. start_disk laws converters.rules converters.answers endings.start_memory taken taken told old new lawful
-      time (λ begun. begun) (keeps tells);
-}
+run_short laws told converters status left taken source_failures sink_failures old new lawful time keeps is
+    fed = record {
+      ending = endings.start_memory;
+      status_is = is;
+      given = [];
+      taken = Consumes-nil left;
+      bound = omega arith;
+      ended = false;
+      end_seen = not_seen;
+      input = (refl, refl);
+      lines = [];
+      turns = [];
+      gives = refl;
+      ends = record { no_line = refl; no_turn = refl; wrote = Appends-nil taken };
+      cause = fed;
+      failures = record { last = old.faults; blamed = refl; later = time.faults; passes = λ apart. fed };
+      time = time;
+      disk = λ tells. start_disk laws converters endings.start_memory taken taken told old new lawful
+          time (λ begun. begun) (keeps tells);
+    }
 
 -- the same memory under another name
-pub handled_as : (told : Bool) (rules : List Rule) (answers : Answers) (start : Medium) (before : Option (List ℕ))
+pub handled_as : (told : Bool) (converters : Converters) (start : Medium) (before : Option (List ℕ))
     (lines : List (List ℕ)) (now : Option (List ℕ)) (memory same : Memory) (medium : Medium)
-    → same ≡ memory → Handled (setting told rules answers start before) lines now memory medium
-    → Handled (setting told rules answers start before) lines now same medium
-handled_as told rules answers start before lines now memory same medium is handled =
-    subst (λ (m : Memory). Handled (setting told rules answers start before) lines now m medium) (sym is) handled
+    → same ≡ memory → Handled (setting told converters start before) lines now memory medium
+    → Handled (setting told converters start before) lines now same medium
+handled_as told converters start before lines now memory same medium is handled =
+    subst (λ (m : Memory). Handled (setting told converters start before) lines now m medium) (sym is) handled
 
 -- why it ended
 pub cause_of : (ending : Way) (before after : FailureCounts) → (ending ≡ ways.Source → Rose before.source after.source)

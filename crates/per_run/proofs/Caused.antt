@@ -22,7 +22,8 @@ use Rattle.disk_model.specs.Medium.{Medium, IsLawful}
 use Rattle.disk_model.specs.declared.disk.Disk.{Ghosts as DiskOf}
 use Rattle.command_text.specs.Reading.{is_application_digit}
 use Rattle.run_model.specs.AppLaws.{AppLaws}
-use Rattle.run_model.specs.Edges.{Converters, Edges, failures_at, modelled}
+use Rattle.run_model.specs.Converters.{Converters}
+use Rattle.run_model.specs.Edges.{Edges, failures_at, modelled}
 use Rattle.run_model.specs.Endings as endings
 use Rattle.run_model.specs.Endings.{Ending, FailureCounts, HasCauseOf, ending_status}
 use Rattle.run_model.specs.Lines.{IsWellFormed}

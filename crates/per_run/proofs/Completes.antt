@@ -11,7 +11,8 @@ use Rattle.command_text.specs.declared.calls.Event.{Event}
 use Rattle.command_text.specs.declared.lines.Line.{Line}
 use Rattle.command_text.specs.declared.lines.Line.TheVariants as line
 use Rattle.command_text.specs.Grammar.{IsLine}
-use Rattle.run_model.specs.Edges.{Converters, Edges}
+use Rattle.run_model.specs.Converters.{Converters}
+use Rattle.run_model.specs.Edges.{Edges}
 use Rattle.run_model.specs.Endings.{Ending, FailureCounts, HasCauseOf, EndsBy, IsInput, ending_status}
 use Rattle.run_model.specs.Endings as endings
 use Rattle.run_model.specs.Lines.{Give, IsBad, IsWellFormed, all_read, end_last, end_line, last_line, lines_of}

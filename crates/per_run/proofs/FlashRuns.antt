@@ -4,7 +4,8 @@ use Rattle.std.specs.Prelude.{IfSome}
 use Rattle.per_base.specs.Causes.{Rose}
 use Rattle.flash_model.specs.declared.flash.Flash.{Ghosts as FlashOf}
 use Rattle.flash_disk.specs.FlashView.{FlashView}
-use Rattle.run_model.specs.Edges.{Converters, Edges}
+use Rattle.run_model.specs.Converters.{Converters}
+use Rattle.run_model.specs.Edges.{Edges}
 use Rattle.run_model.specs.Lines.{IsWellFormed}
 use Rattle.per_run.specs.declared.flash.FlashRun.{FlashRun}
 use Rattle.per_run.specs.declared.flash.FlashRun.TheVariants.{Ran, Unopened}

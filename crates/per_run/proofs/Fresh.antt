@@ -4,13 +4,12 @@ use Rattle.std.proofs.Common.{sym, ◌∙◌, ap, ap₂, append-nil, subst, arit
 use Rattle.disk_model.specs.Frame.{Spares}
 use Rattle.disk_model.specs.Image.{Image}
 use Rattle.disk_model.specs.Medium.{Medium, OnlyReads}
-use Rattle.migrate_fns.specs.Rules.{Rule, Answers}
 use Rattle.command_text.specs.Generated.{generated}
 use Rattle.deploy_laws.specs.Apps.{App, app_at}
 use Rattle.deploy_rows.specs.Costs.{format_cost}
 use Rattle.deploy_rows.specs.Rows.{empty_app}
 use Rattle.run_model.specs.Bounds.{AreBounded}
-use Rattle.run_model.specs.Edges.{Converters}
+use Rattle.run_model.specs.Converters.{Converters}
 use Rattle.run_model.specs.Endings as endings
 use Rattle.run_model.specs.Endings.{AfterSome, InReply}
 use Rattle.run_model.specs.Moments.{last_of}
@@ -41,7 +40,8 @@ resting_all f a app (suc n) is = ap₂ (λ (x : App) (xs : List Application). re
     (is app (omega arith) (omega arith))
     (resting_all f a (app + 1) n (λ i least most. is i (omega (arith, least)) (omega (arith, most))))
 
-pub is_formatted : (image : Image) → ((app : ℕ) → app < 8 → app_at image app ≡ empty_app 1) → world_at image ≡ formatted
+pub is_formatted : (image : Image) → ((app : ℕ) → app < 8 → app_at image app ≡ empty_app 1) → world_at image
+    ≡ formatted
 unfolding world_at
 is_formatted image each = ap (λ (apps : List Application). record formatted { apps = apps })
     (resting_all (app_at image) (empty_app 1) 0 8 (λ i least most. each i most))
@@ -157,27 +157,23 @@ generates_none told converters n status now old new is later failed formats = re
 
 -- ---- a synthetic workload that was handled
 
-begins_calm : (image : Image) → (after_start (world_at image)).doubt ≡ None
-unfolding world_at
-begins_calm image = refl
-
 start_formatted : after_start formatted ≡ formatted
 start_formatted = refl
 
-pub counted_none : (told : Bool) (rules : List Rule) (answers : Answers) (memory : Memory) (tally : Tally)
+pub counted_none : (told : Bool) (converters : Converters) (memory : Memory) (tally : Tally)
     (old middle new : Medium) → IsServeBegun told memory old middle new → Tallies [] tally
-    → Counted (setting told rules answers middle None) [] memory tally new
-counted_none told rules answers memory tally old middle new begun none = record {
+    → Counted (setting told converters middle None) [] memory tally new
+counted_none told converters memory tally old middle new begun none = record {
   turns = [];
   gives = refl;
   each = refl;
-  goes = goes_none told rules answers memory middle new begun.time begun.started begun.starts;
+  goes = goes_none told converters memory middle new begun.time begun.started begun.starts;
   tallies = none;
 }
 
-follow_from : (rules : List Rule) (answers : Answers) (w v : World) (ts : List Turn) → w ≡ v → Follow rules answers w ts
-    → Follow rules answers v ts
-follow_from rules answers w v ts is follow = subst (λ (x : World). Follow rules answers x ts) is follow
+follow_from : (converters : Converters) (w v : World) (ts : List Turn) → w ≡ v → Follow converters w ts
+    → Follow converters v ts
+follow_from converters w v ts is follow = subst (λ (x : World). Follow converters x ts) is follow
 
 pub counts_up : {told : Bool} {memory : Memory} {old middle new : Medium} {now : ℕ}
     → IsServeBegun told memory old middle new → new.faults ≤ now → old.faults ≤ now
@@ -197,11 +193,11 @@ first_lines lines all turns (inl after) = (after.others, after.next)
 first_lines lines all turns (inr reply) = (reply.others, reply.next)
 
 -- memory ran out after the start
-pub generates_short : (told : Bool) (rules : List Rule) (answers : Answers) (n : ℕ) (now : Option (List ℕ))
+pub generates_short : (told : Bool) (converters : Converters) (n : ℕ) (now : Option (List ℕ))
     (memory : Memory) (old middle begun new : Medium) → IsServeBegun told memory old middle begun
-    → RunsShort (setting told rules answers middle None) (generated n) new
-    → Generates told (record { rules = rules; answers = answers }) n 4 (outputs now old) (outputs now new)
-generates_short told rules answers n now memory old middle begun new b course = record {
+    → RunsShort (setting told converters middle None) (generated n) new
+    → Generates told converters n 4 (outputs now old) (outputs now new)
+generates_short told converters n now memory old middle begun new b course = record {
   ending = endings.memory;
   status_is = refl;
   lines = course.lines;
@@ -216,16 +212,16 @@ generates_short told rules answers n now memory old middle begun new b course = 
     later = course.failures.later;
     passes = λ other. course.failures.passes (λ is. cc);
   };
-  follow = λ tells. follow_from rules answers (after_start (world_at middle.image)) formatted course.turns (here tells)
+  follow = λ tells. follow_from converters (after_start (world_at middle.image)) formatted course.turns (here tells)
       (side tells).follow;
   bounded = λ tells. record {
     begun = (side tells).begun;
     starts = formats_on old middle (side tells).begun (b.roots tells) b.written (b.alone tells)
         (side tells).starts.roots (side tells).starts.already;
-    bounded = subst (λ (w : World). AreBounded rules answers w (side tells).begun course.turns) (here tells)
+    bounded = subst (λ (w : World). AreBounded converters w (side tells).begun course.turns) (here tells)
         (side tells).bounded;
     held = λ done. absurd (not_done 4 (inr refl) done);
-    left = subst (λ (w : World). IsLeftBy (record { rules = rules; answers = answers }) w
+    left = subst (λ (w : World). IsLeftBy converters w
         (without_sink course.lines (generated n) course.turns) (side tells).begun (bytes_now new)) (here tells)
         (left_by _ (after_start (world_at middle.image)) _ _ (side tells).progress);
   };
@@ -236,7 +232,7 @@ generates_short told rules answers n now memory old middle begun new b course = 
   clean = λ tells started app lt. (side tells).clean app lt (b.clean tells app lt);
 }
   where
-    side : IsTrue told → DiskSide (record { rules = rules; answers = answers }) endings.memory
+    side : IsTrue told → DiskSide converters endings.memory
         (without_sink course.lines (generated n) course.turns) middle new
     side tells = course.disk tells
 
@@ -263,14 +259,15 @@ handled_begun (inl done) = tt
 handled_begun (inr (inl four)) = tt
 handled_begun (inr (inr six)) = tt
 
-pub generates_all : {Cause : Type 0} (told : Bool) (rules : List Rule) (answers : Answers) (n status : ℕ)
+pub generates_all : {Cause : Type 0} (told : Bool) (converters : Converters) (n status : ℕ)
     (before now : Option (List ℕ)) (memory after : Memory) (tally : Tally) (old middle begun new : Medium)
-    → IsServeBegun told memory old middle begun → (counted : Counted (setting told rules answers middle None) (generated n)
+    → IsServeBegun told memory old middle begun
+    → (counted : Counted (setting told converters middle None) (generated n)
     after tally new)
     → WritesOutput status before now (summary (n + 5) (replies_of counted.turns))
     → (status ≡ 0) ⊎ ((status ≡ 4) ⊎ ((status ≡ 6) × Cause))
-    → Generates told (record { rules = rules; answers = answers }) n status (outputs before old) (outputs now new)
-generates_all told rules answers n status before now memory after tally old middle begun new b counted writes
+    → Generates told converters n status (outputs before old) (outputs now new)
+generates_all told converters n status before now memory after tally old middle begun new b counted writes
     is = record {
       ending = handled_so is;
       status_is = handled_by is;
@@ -279,33 +276,33 @@ generates_all told rules answers n status before now memory after tally old midd
       whole = λ done. refl;
       turns = counted.turns;
       gives = counted.gives;
-      output = subst (λ (k : ℕ). WritesOutput status before now (summary k (replies_of counted.turns))) (sym (length_all n))
+      output = subst (λ (k : ℕ). WritesOutput status before now (summary k (replies_of counted.turns)))
+          (sym (length_all n))
           writes;
       failures = counts_whole (subst (λ (n : ℕ). AreBlamed n counted.turns new.faults) b.passes counted.goes.blamed);
       follow = λ tells.
-          let g : IsGoing rules answers middle counted.turns after new = counted.goes.disk tells in
-          follow_from rules answers (after_start (world_at middle.image)) formatted counted.turns (here tells) g.2.follow;
+          let g : IsGoing converters middle counted.turns after new = counted.goes.disk tells in
+          follow_from converters (after_start (world_at middle.image)) formatted counted.turns (here tells)
+          g.2.follow;
       bounded = λ tells.
-          let g : IsGoing rules answers middle counted.turns after new = counted.goes.disk tells in record {
+          let g : IsGoing converters middle counted.turns after new = counted.goes.disk tells in record {
             begun = g.2.begun;
             starts = formats_on old middle g.2.begun (b.roots tells) b.written (b.alone tells) g.2.starts.roots
                 g.2.starts.already;
-            bounded = subst (λ (w : World). AreBounded rules answers w g.2.begun counted.turns) (here tells) g.2.bounded;
+            bounded = subst (λ (w : World). AreBounded converters w g.2.begun counted.turns) (here tells) g.2.bounded;
             held = λ done. g.2.held;
             left = inl g.2.held;
           };
       stands = λ tells started.
-          let g : IsGoing rules answers middle counted.turns after new = counted.goes.disk tells in
+          let g : IsGoing converters middle counted.turns after new = counted.goes.disk tells in
           formatted_still middle g.2.begun (b.world tells) (b.alone tells) g.2.starts.already;
       settled = λ tells done.
-          let g : IsGoing rules answers middle counted.turns after new = counted.goes.disk tells in
+          let g : IsGoing converters middle counted.turns after new = counted.goes.disk tells in
           subst (λ (w : World). IsSettled (last_of w (worlds_of counted.turns)) new) (here tells)
-          (ends_settled rules answers (world_at middle.image) (after_start (world_at middle.image))
-          (begins_calm middle.image)
-          counted.turns after g.0 middle new g.2);
+          (ends_settled converters middle counted.turns after g.0 new g.2);
       unbegun = λ open_end. absurd (open_end (handled_begun is));
       clean = λ tells started app lt calm passes.
-          let g : IsGoing rules answers middle counted.turns after new = counted.goes.disk tells in
+          let g : IsGoing converters middle counted.turns after new = counted.goes.disk tells in
           (g.2.stayed app lt (b.clean tells app lt) calm).ready.clean;
     }
   where

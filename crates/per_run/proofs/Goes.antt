@@ -1,38 +1,38 @@
 -- The run goes on: one command more.
 use Rattle.std.proofs.Common.{List, [], ◌∷◌, ◌++◌, ◌≡◌, refl, sym, Option, None, Bool, true, false, IsTrue}
 use Rattle.disk_model.specs.Medium.{Medium, IsLawful, Elapses}
-use Rattle.migrate_fns.specs.Rules.{Rule, Answers}
 use Rattle.command_text.specs.declared.calls.Event.{Event}
 use Rattle.command_text.specs.declared.replies.Reply.{Reply}
+use Rattle.run_model.specs.Converters.{Converters}
 use Rattle.run_model.specs.RunLaws.{blamed_on, starts_going, steps_going}
-use Rattle.run_model.specs.Runtimes.{Memory, IsDoubt, Starts, Stepped, world_of}
+use Rattle.run_model.specs.Runtimes.{Memory, IsDoubt, Starts, Stepped, world_of, runtime_at}
 use Rattle.run_model.specs.Turns.{Turn, turn, IsBlamed}
 use Rattle.run_model.specs.Worlds.{Doubt, World, formatted}
 use Rattle.per_run.specs.Steps.{Goes, IsGoing}
-use Rattle.per_run.proofs.Settings.{converting}
 
-module _ (rules : List Rule) (answers : Answers) (start : Medium) where
+module _ (converters : Converters) (start : Medium) where
   -- the doubt after a command whose disk has modelled bytes
   told_on : (turns : List Turn) (e : Event) (reply : Reply) (before after : Memory) (now new : Medium)
       → IsLawful true new → Elapses now new
-      → (g : IsGoing rules answers start turns before now)
-      → (s : Stepped rules answers e reply before after g.0 now new)
-      → IsGoing rules answers start (turns ++ turn e reply new (world_of new.image after s.doubt') ∷ []) after
+      → (g : IsGoing converters start turns before now)
+      → (s : Stepped converters e reply g.0 (runtime_at before now) (runtime_at after new))
+      → IsGoing converters start (turns ++ turn e reply new (world_of new.image after s.doubt') ∷ []) after
       new
   told_on turns e reply before after now new lawful time g s = (
     s.doubt',
     s.is_doubt,
-    steps_going rules answers turns e reply before after g.0 true start now new refl lawful
+    steps_going converters turns e reply before after g.0 true start now new refl lawful
         time g.2 s,
   )
 
   -- one command more
-  pub goes_on : (told : Bool) (turns : List Turn) (e : Event) (reply : Reply) (before after : Memory) (now new : Medium)
+  pub goes_on : (told : Bool) (turns : List Turn) (e : Event) (reply : Reply) (before after : Memory)
+      (now new : Medium)
       → IsLawful told new → Elapses now new
-      → Goes told (converting rules answers) start turns before now → IsBlamed now.faults new.faults reply
+      → Goes told converters start turns before now → IsBlamed now.faults new.faults reply
       → (IsTrue told → (doubt : Option Doubt) → IsDoubt before doubt
-      → Stepped rules answers e reply before after doubt now new)
-      → (w : World) × Goes told (converting rules answers) start (turns ++ turn e reply new w ∷ []) after new
+      → Stepped converters e reply doubt (runtime_at before now) (runtime_at after new))
+      → (w : World) × Goes told converters start (turns ++ turn e reply new w ∷ []) after new
   goes_on false turns e reply before after now new lawful time goes blamed stepped = (
     formatted,
     record {
@@ -41,8 +41,8 @@ module _ (rules : List Rule) (answers : Answers) (start : Medium) where
     },
   )
   goes_on true turns e reply before after now new lawful time goes blamed stepped =
-      let g : IsGoing rules answers start turns before now = goes.disk refl in
-      let s : Stepped rules answers e reply before after g.0 now new = stepped refl g.0 g.1 in
+      let g : IsGoing converters start turns before now = goes.disk refl in
+      let s : Stepped converters e reply g.0 (runtime_at before now) (runtime_at after new) = stepped refl g.0 g.1 in
       let w : World = world_of new.image after s.doubt' in (
         w,
         record {
@@ -52,11 +52,11 @@ module _ (rules : List Rule) (answers : Answers) (start : Medium) where
       )
 
 -- a runtime that started is a run without a command
-pub goes_none : (told : Bool) (rules : List Rule) (answers : Answers) (memory : Memory) (old new : Medium)
+pub goes_none : (told : Bool) (converters : Converters) (memory : Memory) (old new : Medium)
     → Elapses old new → new.faults ≡ old.faults → (IsTrue told → Starts memory old new)
-    → Goes told (converting rules answers) old [] memory new
-goes_none told rules answers memory old new time passes starts = record {
+    → Goes told converters old [] memory new
+goes_none told converters memory old new time passes starts = record {
   blamed = passes;
   disk = λ tells. let s : Starts memory old new = starts tells in
-      (None, sym s.sure, starts_going rules answers memory old new time s);
+      (None, sym s.sure, starts_going converters memory old new time s);
 }

@@ -5,8 +5,8 @@ use Rattle.std.proofs.KnownBytes.{Consumes-trans, Consumes-kept, Consumes-nil, A
 use Rattle.std.proofs.lemmas.List.{length-take-le}
 use Rattle.std.specs.Io.KnownBytes.{Consumes, IsAtEnd, Keeps}
 use Rattle.disk_model.specs.Medium.{Medium}
-use Rattle.migrate_fns.specs.Rules.{Rule, Answers}
 use Rattle.run_model.specs.AppLaws.{AppLaws}
+use Rattle.run_model.specs.Converters.{Converters}
 use Rattle.run_model.specs.Endings.{IsInput}
 use Rattle.run_model.specs.Lines.{lines_of}
 use Rattle.run_model.specs.Runtimes.{Memory}
@@ -52,19 +52,19 @@ pub not_seen : {P : Type 0} → false ≡ true → P
 not_seen is = absurd (unseen is)
 
 -- that many bytes were taken and handled
-pub record Taken (told : Bool) (rules : List Rule) (answers : Answers) (start : Medium)
+pub record Taken (told : Bool) (converters : Converters) (start : Medium)
     (left_before left_now before now : Option (List ℕ)) (memory : Memory) (medium : Medium)
     (kept : List ℕ) (number taken : ℕ) : Type 0 where
   pub given : List ℕ
   pub takes : Consumes left_before left_now given
   pub count_is : length given ≡ taken
-  pub reached : Reached (setting told rules answers start before) given now (reading memory kept number) medium
+  pub reached : Reached (setting told converters start before) given now (reading memory kept number) medium
 
-module _ (told : Bool) (rules : List Rule) (answers : Answers) (start : Medium) (left_before : Option (List ℕ))
+module _ (told : Bool) (converters : Converters) (start : Medium) (left_before : Option (List ℕ))
     (before : Option (List ℕ)) where
   pub taken_none : (now : Option (List ℕ)) (memory : Memory) (medium : Medium) (kept : List ℕ) (number : ℕ)
-      → Reached (setting told rules answers start before) [] now (reading memory kept number) medium
-      → Taken told rules answers start left_before left_before before now memory medium kept number 0
+      → Reached (setting told converters start before) [] now (reading memory kept number) medium
+      → Taken told converters start left_before left_before before now memory medium kept number 0
   taken_none now memory medium kept number reached = record {
     given = [];
     takes = Consumes-nil left_before;
@@ -75,14 +75,14 @@ module _ (told : Bool) (rules : List Rule) (answers : Answers) (start : Medium) 
 
   pub taken_more : (left_now left_later now later : Option (List ℕ)) (memory after : Memory) (old new : Medium)
       (kept kept_later : List ℕ) (number number_later taken count : ℕ) (buffer : List ℕ)
-      → Taken told rules answers start left_before left_now before now memory old kept number taken → taken ≤ 67108864
+      → Taken told converters start left_before left_now before now memory old kept number taken → taken ≤ 67108864
       → count ≤ length buffer → taken + count ≤ 67108864
       → Consumes left_now left_later (take count buffer)
       → ((given : List ℕ) → length (given ++ take count buffer) < 2 ^ 63
-      → Reached (setting told rules answers start before) given now (reading memory kept number) old
-      → Reached (setting told rules answers start before) (given ++ take count buffer) later
+      → Reached (setting told converters start before) given now (reading memory kept number) old
+      → Reached (setting told converters start before) (given ++ take count buffer) later
       (reading after kept_later number_later) new)
-      → Taken told rules answers start left_before left_later before later after new kept_later number_later
+      → Taken told converters start left_before left_later before later after new kept_later number_later
       (taken + count)
   taken_more left_now left_later now later memory after old new kept kept_later number number_later taken count buffer
       so_far within fits limit takes goes_on =
@@ -100,13 +100,13 @@ module _ (told : Bool) (rules : List Rule) (answers : Answers) (start : Medium) 
   -- the end of the input was seen
   pub ran_read : (ending : Ending) (left_now left_later now later : Option (List ℕ)) (memory : Memory)
       (old new : Medium) (kept : List ℕ) (number taken count : ℕ) (buffer : List ℕ)
-      → Taken told rules answers start left_before left_now before now memory old kept number taken → taken < 67108864
+      → Taken told converters start left_before left_now before now memory old kept number taken → taken < 67108864
       → count ≡ 0 → Consumes left_now left_later (take count buffer)
       → IsAtEnd left_later → (ending ≡ AllRead) ⊎ IsBroken ending
-      → ((given : List ℕ) → length given < 2 ^ 63 → Reached (setting told rules answers start before) given now
+      → ((given : List ℕ) → length given < 2 ^ 63 → Reached (setting told converters start before) given now
       (reading memory kept number) old
-      → Course (setting told rules answers start before) (ending_of ending) (lines_of true given) later new)
-      → RanOverInput (setting told rules answers start before) ending left_before left_later later new
+      → Course (setting told converters start before) (ending_of ending) (lines_of true given) later new)
+      → RanOverInput (setting told converters start before) ending left_before left_later later new
   ran_read ending left_now left_later now later memory old new kept number taken count buffer so_far within none takes
       at_end inner ends =
       let nothing : Consumes left_now left_later [] = subst (λ (n : ℕ). Consumes left_now left_later (take n buffer))
@@ -125,14 +125,14 @@ module _ (told : Bool) (rules : List Rule) (answers : Answers) (start : Medium) 
   -- a piece of the input ended the run
   pub ran_fed : (ending : Ending) (left_now left_later now later : Option (List ℕ)) (memory : Memory) (old new : Medium)
       (kept : List ℕ) (number taken count : ℕ) (buffer : List ℕ)
-      → Taken told rules answers start left_before left_now before now memory old kept number taken → taken ≤ 67108864
+      → Taken told converters start left_before left_now before now memory old kept number taken → taken ≤ 67108864
       → count ≤ length buffer → taken + count ≤ 67108864
       → Consumes left_now left_later (take count buffer) → IsBroken ending
       → ((given : List ℕ) → length (given ++ take count buffer) < 2 ^ 63
-      → Reached (setting told rules answers start before) given now (reading memory kept number) old
-      → Course (setting told rules answers start before) (ending_of ending) (lines_of false (given ++ take count buffer))
+      → Reached (setting told converters start before) given now (reading memory kept number) old
+      → Course (setting told converters start before) (ending_of ending) (lines_of false (given ++ take count buffer))
       later new)
-      → RanOverInput (setting told rules answers start before) ending left_before left_later later new
+      → RanOverInput (setting told converters start before) ending left_before left_later later new
   ran_fed ending left_now left_later now later memory old new kept number taken count buffer so_far within fits limit
       takes broken ends =
       let piece : length (take count buffer) ≡ count = length-take-le count buffer fits in
@@ -152,7 +152,7 @@ module _ (told : Bool) (rules : List Rule) (answers : Answers) (start : Medium) 
   -- all whole lines of what was taken are handled
   whole_lines : (given : List ℕ) (now : Option (List ℕ)) (memory : Memory) (medium : Medium) (kept : List ℕ)
       (number : ℕ)
-      → (reached : Reached (setting told rules answers start before) given now (reading memory kept number) medium)
+      → (reached : Reached (setting told converters start before) given now (reading memory kept number) medium)
       → lines_of false given ≡ reached.lines
   whole_lines given now memory medium kept number reached =
       ap (lines_of false) reached.split ∙ lines_whole reached.lines reached.rest reached.clean reached.clean_rest
@@ -160,9 +160,9 @@ module _ (told : Bool) (rules : List Rule) (answers : Answers) (start : Medium) 
   -- the source failed
   pub ran_source : AppLaws → (left_now left_later now : Option (List ℕ)) (memory : Memory) (medium : Medium)
       (kept : List ℕ) (number taken : ℕ)
-      → Taken told rules answers start left_before left_now before now memory medium kept number taken
+      → Taken told converters start left_before left_now before now memory medium kept number taken
       → taken < 67108864 → Keeps left_now left_later
-      → RanOverInput (setting told rules answers start before) Source left_before left_later now medium
+      → RanOverInput (setting told converters start before) Source left_before left_later now medium
   ran_source laws left_now left_later now memory medium kept number taken so_far within keeps = record {
     given = so_far.given;
     taken = Consumes-kept left_before left_now left_later so_far.given so_far.takes keeps;
@@ -170,7 +170,7 @@ module _ (told : Bool) (rules : List Rule) (answers : Answers) (start : Medium) 
     ended = false;
     end_seen = not_seen;
     input = (refl, omega (arith, so_far.count_is, within));
-    course = course_source told rules answers start before laws so_far.reached.lines _ now memory medium
+    course = course_source told converters start before laws so_far.reached.lines _ now memory medium
         so_far.reached.handled
         (whole_lines so_far.given now memory medium kept number so_far.reached);
   }
@@ -178,9 +178,9 @@ module _ (told : Bool) (rules : List Rule) (answers : Answers) (start : Medium) 
   -- the limit was reached
   pub ran_long : AppLaws → (left_now now : Option (List ℕ)) (memory : Memory) (medium : Medium) (kept : List ℕ)
       (number taken : ℕ)
-      → Taken told rules answers start left_before left_now before now memory medium kept number taken
+      → Taken told converters start left_before left_now before now memory medium kept number taken
       → taken ≤ 67108864 → 67108864 ≤ taken
-      → RanOverInput (setting told rules answers start before) TooLong left_before left_now now medium
+      → RanOverInput (setting told converters start before) TooLong left_before left_now now medium
   ran_long laws left_now now memory medium kept number taken so_far within least = record {
     given = so_far.given;
     taken = so_far.takes;
@@ -188,15 +188,15 @@ module _ (told : Bool) (rules : List Rule) (answers : Answers) (start : Medium) 
     ended = false;
     end_seen = not_seen;
     input = (refl, omega (arith, so_far.count_is, within, least));
-    course = course_long told rules answers start before laws so_far.reached.lines _ now memory medium
+    course = course_long told converters start before laws so_far.reached.lines _ now memory medium
         so_far.reached.handled
         (whole_lines so_far.given now memory medium kept number so_far.reached);
   }
 
   -- memory ran out before anything was taken
   pub ran_memory : AppLaws → (now : Option (List ℕ)) (memory : Memory) (medium : Medium)
-      → Handled (setting told rules answers start before) [] now memory medium
-      → RanOverInput (setting told rules answers start before) OutOfMemory left_before left_before now medium
+      → Handled (setting told converters start before) [] now memory medium
+      → RanOverInput (setting told converters start before) OutOfMemory left_before left_before now medium
   ran_memory laws now memory medium handled = record {
     given = [];
     taken = Consumes-nil left_before;
@@ -204,5 +204,5 @@ module _ (told : Bool) (rules : List Rule) (answers : Answers) (start : Medium) 
     ended = false;
     end_seen = not_seen;
     input = tt;
-    course = course_memory told rules answers start before laws [] [] now now memory medium handled (Appends-nil now);
+    course = course_memory told converters start before laws [] [] now now memory medium handled (Appends-nil now);
   }

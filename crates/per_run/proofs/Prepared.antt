@@ -8,12 +8,12 @@ use Rattle.disk_model.specs.Image.{Image}
 use Rattle.disk_model.specs.Laws.{cases_on, elapses_on, reads_on}
 use Rattle.disk_model.specs.Medium.{Medium, IsLawful, Elapses, OnlyReads}
 use Rattle.disk_model.specs.declared.disk.Disk.{Ghosts as DiskOf}
-use Rattle.migrate_fns.specs.Rules.{Rule, Answers}
 use Rattle.deploy.specs.declared.errors.Stop.{Stop}
 use Rattle.deploy_laws.specs.Apps.{IsCleanApp}
 use Rattle.run_model.specs.AppLaws.{AppLaws}
+use Rattle.run_model.specs.Converters.{Converters}
 use Rattle.run_model.specs.Costs.{roots_cost}
-use Rattle.run_model.specs.Edges.{Converters, Edges, failures_at, modelled}
+use Rattle.run_model.specs.Edges.{Edges, failures_at, modelled}
 use Rattle.run_model.specs.Endings as endings
 use Rattle.run_model.specs.Endings.{HasCauseOf, HasStarted, ending_status}
 use Rattle.run_model.specs.Moments.{Between}
@@ -155,13 +155,13 @@ on_err (Err e) p = p
 
 -- ---- the run
 
-pub hearing_none : (told : Bool) (rules : List Rule) (answers : Answers) (now : Option (List ℕ)) (memory : Memory)
+pub hearing_none : (told : Bool) (converters : Converters) (now : Option (List ℕ)) (memory : Memory)
     (old new : Medium) → Elapses old new → new.faults ≡ old.faults → (IsTrue told → Starts memory old new)
-    → Hearing (setting told rules answers old now) [] now memory new
-hearing_none told rules answers now memory old new time passes starts = record {
+    → Hearing (setting told converters old now) [] now memory new
+hearing_none told converters now memory old new time passes starts = record {
   are = tt;
   wrote = Appends-nil now;
-  goes = goes_none told rules answers memory old new time passes starts;
+  goes = goes_none told converters memory old new time passes starts;
 }
 
 -- one that came to its lines
@@ -238,9 +238,14 @@ serve_none laws told converters endings.device status left taken source_failures
       are = tt;
       ends = record { no_line = refl; wrote = Appends-nil taken };
       cause = cause;
-      failures = record { last = old.faults; blamed = refl; later = time.faults; passes = λ apart. absurd (apart refl) };
+      failures = record {
+        last = old.faults;
+        blamed = refl;
+        later = time.faults;
+        passes = λ apart. absurd (apart refl);
+      };
       time = time;
-      disk = λ tells. start_disk laws converters.rules converters.answers endings.device None None told old new lawful
+      disk = λ tells. start_disk laws converters endings.device None None told old new lawful
           time (λ begun. begun) (keeps tells);
     }
 serve_none laws told converters endings.start_memory status left taken source_failures sink_failures old new open_end
@@ -258,7 +263,7 @@ serve_none laws told converters endings.start_memory status left taken source_fa
       cause = cause;
       failures = record { last = old.faults; blamed = refl; later = time.faults; passes = λ apart. cause };
       time = time;
-      disk = λ tells. start_disk laws converters.rules converters.answers endings.start_memory None None told old new
+      disk = λ tells. start_disk laws converters endings.start_memory None None told old new
           lawful time (λ begun. begun) (keeps tells);
     }
 
@@ -275,7 +280,8 @@ serves_none laws of_disk converters left taken source_failures sink_failures old
 serves_none laws of_disk converters left taken source_failures sink_failures old new lawful time (inr nothing) rose =
     unprepared nothing (inl (refl, rose)) (Keeps-refl left) (Keeps-refl taken)
 
-pub serves_short : {D : Type 0} → AppLaws → (of_disk : DiskOf D) (converters : Converters) (left taken : Option (List ℕ))
+pub serves_short : {D : Type 0} → AppLaws
+    → (of_disk : DiskOf D) (converters : Converters) (left taken : Option (List ℕ))
     (source_failures sink_failures : ℕ) (old new : D) → IsLawful of_disk.told (of_disk.medium new)
     → Elapses (of_disk.medium old) (of_disk.medium new) → IsUnready of_disk.told of_disk.medium old new
     → (of_disk.medium new).faults ≡ (of_disk.medium old).faults

@@ -8,14 +8,14 @@ use Rattle.std.proofs.lemmas.List.Sums.{sum_by_push, count_by-le-length}
 use Rattle.std.proofs.Math.Seq.{take-suc}
 use Rattle.std.proofs.lemmas.List.{length-take, map-append, take-append-drop, take_all}
 use Rattle.disk_model.specs.Medium.{Medium, IsLawful, Elapses}
-use Rattle.migrate_fns.specs.Rules.{Rule, Answers}
 use Rattle.command_text.specs.declared.replies.Answer.{Answer}
 use Rattle.command_text.specs.declared.replies.Answer.TheVariants as answer
 use Rattle.command_text.specs.declared.replies.Reply.{Reply}
 use Rattle.command_text.specs.Generated.{first_lines, generated, generated_line, generated_lines, last_lines}
 use Rattle.command_text.specs.Generated.{next_number}
 use Rattle.run_model.specs.AppLaws.{AppLaws}
-use Rattle.run_model.specs.Runtimes.{Memory}
+use Rattle.run_model.specs.Converters.{Converters}
+use Rattle.run_model.specs.Runtimes.{Memory, runtime_at}
 use Rattle.run_model.specs.Turns.{Turn, turn, replies_of}
 use Rattle.run_model.specs.Worlds.{World}
 use Rattle.per_run.specs.declared.answering.LineOutcome.{LineOutcome}
@@ -24,11 +24,10 @@ use Rattle.per_run.specs.declared.tally.Tally.{Tally}
 use Rattle.per_run.specs.Jobs.{BeginWith, done_in, error_in, number_in, is_done, is_error, is_other, size_given}
 use Rattle.per_run.specs.Jobs.{summary, summary_text}
 use Rattle.per_run.specs.Steps.{Counted, Goes, Handled, IsLineAnswered, IsLineOutcome, IsStopped, RunsShort, Tallies}
-use Rattle.per_run.specs.Steps.{runtime_at}
 use Rattle.per_run.proofs.Courses.{course_memory, course_short}
 use Rattle.per_run.proofs.Gives.{give_turn, replies_on}
 use Rattle.per_run.proofs.Goes.{goes_on}
-use Rattle.per_run.proofs.Settings.{converting, disk_as, setting}
+use Rattle.per_run.proofs.Settings.{disk_as, setting}
 
 -- ---- one reply more
 
@@ -142,18 +141,18 @@ length_replies : (ts : List Turn) → length (replies_of ts) ≡ length ts
 length_replies [] = refl
 length_replies (t ∷ ts) = ap suc (length_replies ts)
 
-module _ (told : Bool) (rules : List Rule) (answers : Answers) (start : Medium) where
+module _ (told : Bool) (converters : Converters) (start : Medium) where
   pub counted_more : (lines : List (List ℕ)) (text : List ℕ) (reply : Reply) (memory after : Memory)
       (tally tally' : Tally) (old new : Medium) → IsLawful told new → Elapses old new
-      → length lines < 2 ^ 32 → Counted (setting told rules answers start None) lines memory tally old
-      → IsLineAnswered told (converting rules answers) text (runtime_at memory old) (runtime_at after new) reply
+      → length lines < 2 ^ 32 → Counted (setting told converters start None) lines memory tally old
+      → IsLineAnswered told converters text (runtime_at memory old) (runtime_at after new) reply
       → ((replies : List Reply) → length replies < 2 ^ 32 → Tallies replies tally
       → Tallies (replies ++ reply ∷ []) tally')
-      → Counted (setting told rules answers start None) (lines ++ text ∷ []) after tally' new
+      → Counted (setting told converters start None) (lines ++ text ∷ []) after tally' new
   counted_more lines text reply memory after tally tally' old new lawful time few counted a tallies =
-      let more : (w : World) × Goes told (converting rules answers) start (counted.turns ++ turn a.event reply new w ∷ [])
+      let more : (w : World) × Goes told converters start (counted.turns ++ turn a.event reply new w ∷ [])
       after new =
-      goes_on rules answers start told counted.turns a.event reply memory after old new lawful time counted.goes
+      goes_on converters start told counted.turns a.event reply memory after old new lawful time counted.goes
       a.blamed a.stepped in
       let t : Turn = turn a.event reply new more.0 in
       record {
@@ -168,10 +167,11 @@ module _ (told : Bool) (rules : List Rule) (answers : Answers) (start : Medium) 
       }
 
   pub counted_along : (lines same : List (List ℕ)) (memory : Memory) (tally : Tally) (medium : Medium) → same ≡ lines
-      → Counted (setting told rules answers start None) lines memory tally medium
-      → Counted (setting told rules answers start None) same memory tally medium
+      → Counted (setting told converters start None) lines memory tally medium
+      → Counted (setting told converters start None) same memory tally medium
   counted_along lines same memory tally medium is counted =
-      subst (λ (l : List (List ℕ)). Counted (setting told rules answers start None) l memory tally medium) (sym is) counted
+      subst (λ (l : List (List ℕ)). Counted (setting told converters start None) l memory tally medium) (sym is)
+      counted
 
 -- ---- lines that begin with others
 
@@ -324,22 +324,22 @@ begin_each before all lines i begin = begin_less (before ++ texts_of (take i lin
 -- ---- memory ran out
 
 -- a line of which no command was answered did nothing, or memory ran out in its command
-pub unanswered : {D : Type 0} (told : Bool) (medium : D → Medium) (rules : List Rule) (answers : Answers)
+pub unanswered : {D : Type 0} (told : Bool) (medium : D → Medium) (converters : Converters)
     (text : List ℕ) (memory after : Memory) (old new : D) (r : LineOutcome)
     → ((reply : Reply) → r ≡ outcome.Answered reply → ⊥)
-    → IsLineOutcome (disk_as told medium) (converting rules answers) text (runtime_at memory old) (runtime_at after new) r
-    → (new ≡ old) ⊎ IsStopped told (converting rules answers) text memory (medium old) (medium new)
-unanswered told medium rules answers text memory after old new outcome.Nothing none it = inl it.2
-unanswered told medium rules answers text memory after old new outcome.End none it = inl it.1
-unanswered told medium rules answers text memory after old new outcome.Bad none it = inl it.2
-unanswered told medium rules answers text memory after old new (outcome.Answered reply) none it =
+    → IsLineOutcome (disk_as told medium) converters text (runtime_at memory old) (runtime_at after new) r
+    → (new ≡ old) ⊎ IsStopped told converters text memory (medium old) (medium new)
+unanswered told medium converters text memory after old new outcome.Nothing none it = inl it.2
+unanswered told medium converters text memory after old new outcome.End none it = inl it.1
+unanswered told medium converters text memory after old new outcome.Bad none it = inl it.2
+unanswered told medium converters text memory after old new (outcome.Answered reply) none it =
     absurd (none reply refl)
-unanswered told medium rules answers text memory after old new outcome.OutOfMemory none it = it
+unanswered told medium converters text memory after old new outcome.OutOfMemory none it = it
 
-module _ (told : Bool) (rules : List Rule) (answers : Answers) (start : Medium) where
+module _ (told : Bool) (converters : Converters) (start : Medium) where
   counted_handled : (lines : List (List ℕ)) (memory : Memory) (tally : Tally) (medium : Medium)
-      → Counted (setting told rules answers start None) lines memory tally medium
-      → Handled (setting told rules answers start None) lines None memory medium
+      → Counted (setting told converters start None) lines memory tally medium
+      → Handled (setting told converters start None) lines None memory medium
   counted_handled lines memory tally medium counted = record {
     turns = counted.turns;
     gives = counted.gives;
@@ -349,21 +349,21 @@ module _ (told : Bool) (rules : List Rule) (answers : Answers) (start : Medium) 
 
   -- between commands
   pub short_between : AppLaws → (lines all : List (List ℕ)) (memory : Memory) (tally : Tally) (medium : Medium)
-      → Counted (setting told rules answers start None) lines memory tally medium → BeginWith lines all
-      → RunsShort (setting told rules answers start None) all medium
+      → Counted (setting told converters start None) lines memory tally medium → BeginWith lines all
+      → RunsShort (setting told converters start None) all medium
   short_between laws lines all memory tally medium counted begin =
-      subst (λ (l : List (List ℕ)). RunsShort (setting told rules answers start None) l medium) (sym begin.1)
-      (course_memory told rules answers start None laws lines begin.0 None None memory medium
+      subst (λ (l : List (List ℕ)). RunsShort (setting told converters start None) l medium) (sym begin.1)
+      (course_memory told converters start None laws lines begin.0 None None memory medium
       (counted_handled lines memory tally medium counted) tt)
 
   -- at a line: in reading it, or in its command
   pub short_at : {D : Type 0} (medium : D → Medium) → AppLaws → (lines all : List (List ℕ)) (text : List ℕ)
       (memory : Memory) (tally : Tally) (old new : D) → IsLawful told (medium new) → Elapses (medium old) (medium new)
-      → Counted (setting told rules answers start None) lines memory tally (medium old)
-      → (new ≡ old) ⊎ IsStopped told (converting rules answers) text memory (medium old) (medium new)
-      → BeginWith (lines ++ text ∷ []) all → RunsShort (setting told rules answers start None) all (medium new)
+      → Counted (setting told converters start None) lines memory tally (medium old)
+      → (new ≡ old) ⊎ IsStopped told converters text memory (medium old) (medium new)
+      → BeginWith (lines ++ text ∷ []) all → RunsShort (setting told converters start None) all (medium new)
   short_at {D} medium laws lines all text memory tally old new lawful time counted ends begin =
-      subst (λ (l : List (List ℕ)). RunsShort (setting told rules answers start None) l (medium new))
+      subst (λ (l : List (List ℕ)). RunsShort (setting told converters start None) l (medium new))
       (sym (begin.1 ∙ append_assoc lines (text ∷ []) begin.0))
-      (course_short told rules answers start None medium laws lines begin.0 None memory old new text lawful time
+      (course_short told converters start None medium laws lines begin.0 None memory old new text lawful time
       (counted_handled lines memory tally (medium old) counted) ends)

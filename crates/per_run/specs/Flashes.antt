@@ -20,7 +20,8 @@ use Rattle.flash_disk.specs.Standing.{IsAgreed}
 use Rattle.flash_disk.specs.Throughout.{AgreedSince, UsableSince}
 use Rattle.flash_laws.specs.Outvotes.{OutlastsSince}
 use Rattle.loss_laws.specs.Since.{ReadOnSince}
-use Rattle.run_model.specs.Edges.{Converters, Edges, failures_at, modelled}
+use Rattle.run_model.specs.Converters.{Converters}
+use Rattle.run_model.specs.Edges.{Edges, failures_at, modelled}
 use Rattle.per_run.specs.declared.flash.FlashRun.{FlashRun}
 use Rattle.per_run.specs.declared.flash.FlashRun.TheVariants.{Ran, Unopened}
 use Rattle.per_run.specs.declared.words.Job.{Job}

@@ -20,7 +20,8 @@ use Rattle.command_text.specs.Replies.{answer_text, number_or_dash}
 use Rattle.deploy_laws.specs.Apps.{App, IsCleanApp}
 use Rattle.deploy_rows.specs.Costs.{format_cost}
 use Rattle.run_model.specs.Bounds.{AreBounded, bytes_after}
-use Rattle.run_model.specs.Edges.{Converters, Edges, modelled}
+use Rattle.run_model.specs.Converters.{Converters}
+use Rattle.run_model.specs.Edges.{Edges, modelled}
 use Rattle.run_model.specs.Endings.{Ending, FailureCounts, HasStarted, ending_status}
 use Rattle.run_model.specs.Lines.{Give}
 use Rattle.run_model.specs.Lives.{LooksOnly}
@@ -158,7 +159,7 @@ pub record IsGeneratedWithin (converters : Converters) (handling : Handling) (Wh
   where
     pub begun : DiskBytes
     pub starts : FormatsWithin (bytes_now old) begun
-    pub bounded : AreBounded converters.rules converters.answers formatted begun handling.turns
+    pub bounded : AreBounded converters formatted begun handling.turns
     pub held : Whole → bytes_now new ≡ bytes_after begun handling.turns
     pub left : IsLeftBy converters formatted handling begun (bytes_now new)
 
@@ -174,7 +175,7 @@ pub record Generates (told : Bool) (converters : Converters) (n status : ℕ) (b
   pub gives : Give lines (events_of turns)
   pub output : WritesOutput status before.taken after.taken (summary (length (generated n)) (replies_of turns))
   pub failures : CountsFailures (status ≢ 3) before.disk.faults turns after.disk.faults
-  pub follow : IsTrue told → Follow converters.rules converters.answers formatted turns
+  pub follow : IsTrue told → Follow converters formatted turns
   pub bounded : IsTrue told → IsGeneratedWithin converters (without_sink lines (generated n) turns)
       (CameToOutput status) before.disk after.disk
   -- the bytes from which the first command is counted denote the formatted applications

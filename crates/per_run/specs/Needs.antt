@@ -7,11 +7,11 @@ use Rattle.command_text.specs.declared.lines.Line.TheVariants as line
 use Rattle.command_text.specs.Grammar.{IsLine}
 use Rattle.command_text.specs.Memory.{Allocates}
 use Rattle.command_text.specs.declared.replies.Reply.{Reply}
-use Rattle.run_model.specs.Edges.{Converters}
+use Rattle.run_model.specs.Converters.{Converters}
 use Rattle.run_model.specs.Lines.{IsBad}
-use Rattle.run_model.specs.Runtimes.{Memory, world_of}
+use Rattle.run_model.specs.Runtimes.{Memory, world_of, RuntimeAt}
 use Rattle.per_runtime.specs.Needs.{CommandMayStarve}
-use Rattle.per_run.specs.Steps.{IsLineAnswered, RuntimeAt}
+use Rattle.per_run.specs.Steps.{IsLineAnswered}
 
 -- memory may run out for this line: it has arguments, which are kept, or it is a command that may need memory
 abbrev pub LineMayStarve : Image → Memory → (text : List ℕ) → Type 0

@@ -14,7 +14,8 @@ use Rattle.command_text.specs.Grammar.{IsLine}
 use Rattle.command_text.specs.Replies.{reply_text}
 use Rattle.deploy_laws.specs.Apps.{IsCleanApp}
 use Rattle.deploy_rows.specs.Costs.{format_cost}
-use Rattle.run_model.specs.Edges.{Converters, Edges, failures_at, modelled}
+use Rattle.run_model.specs.Converters.{Converters}
+use Rattle.run_model.specs.Edges.{Edges, failures_at, modelled}
 use Rattle.run_model.specs.Endings as endings
 use Rattle.run_model.specs.Endings.{Ending, HasCauseOf, bad_line_text, ending_status}
 use Rattle.run_model.specs.Lines.{IsBad, lines_of}

@@ -10,7 +10,6 @@ use Rattle.per_base.specs.Causes.{Rose}
 use Rattle.disk_model.specs.Frame.{Spares}
 use Rattle.disk_model.specs.Medium.{Medium, Quiet, Elapses}
 use Rattle.disk_model.specs.declared.disk.Disk.{Ghosts as DiskOf}
-use Rattle.migrate_fns.specs.Rules.{Rule, Answers}
 use Rattle.deploy_laws.specs.Apps.{IsCleanApp}
 use Rattle.command_text.specs.declared.calls.Event.{Event}
 use Rattle.command_text.specs.declared.lines.Line.TheVariants as line
@@ -18,15 +17,15 @@ use Rattle.command_text.specs.declared.replies.Reply.{Reply}
 use Rattle.command_text.specs.Grammar.{IsLine, has_feed}
 use Rattle.command_text.specs.Replies.{HasText}
 use Rattle.deploy_rows.specs.Costs.{format_cost}
-use Rattle.run_model.specs.Edges.{Converters}
+use Rattle.run_model.specs.Converters.{Converters}
 use Rattle.run_model.specs.Endings as endings
 use Rattle.run_model.specs.Endings.{EndsBy, IsInput}
 use Rattle.run_model.specs.Lines.{Give, IsBad, lines_of}
 use Rattle.run_model.specs.RunLaws.{Going}
 use Rattle.run_model.specs.Runs.{DiskSide}
-use Rattle.run_model.specs.Runtimes.{IsDoubt, IsNoRoot, Memory, Starts, Stepped, Stopped}
+use Rattle.run_model.specs.Runtimes.{IsDoubt, IsNoRoot, Memory, Starts, Stepped, Stopped, RuntimeAt, runtime_at}
 use Rattle.run_model.specs.Turns.{Turn, events_of, replies_of, replies_text, IsBlamed, AreBlamed, CountsFailures}
-use Rattle.run_model.specs.Worlds.{Doubt, world_at, after_start, formatted}
+use Rattle.run_model.specs.Worlds.{Doubt, world_at, formatted}
 use Rattle.run_model.specs.Writes.{AreRootsAlone}
 use Rattle.per_run.specs.declared.answering.LineOutcome.{LineOutcome}
 use Rattle.per_run.specs.declared.answering.LineOutcome.TheVariants as outcome
@@ -87,14 +86,6 @@ IsBadLineAnswer text before now other = ⊥
 
 -- ---- one line
 
--- the runtime at one moment: what it keeps in memory, and the disk
-pub record RuntimeAt {ℓ} (D : Type ℓ) : Type ℓ where
-  pub memory : Memory
-  pub disk : D
-
-abbrev pub runtime_at {ℓ} : {D : Type ℓ} → Memory → D → RuntimeAt D
-runtime_at memory disk = record { memory = memory; disk = disk }
-
 -- the command of the line was answered
 pub record IsLineAnswered (told : Bool) (converters : Converters) (text : List ℕ) (old new : RuntimeAt Medium)
     (reply : Reply) : Type 0 where
@@ -103,7 +94,7 @@ pub record IsLineAnswered (told : Bool) (converters : Converters) (text : List �
   pub has_text : HasText reply.answer
   pub blamed : IsBlamed old.disk.faults new.disk.faults reply
   pub stepped : IsTrue told → (doubt : Option Doubt) → IsDoubt old.memory doubt
-      → Stepped converters.rules converters.answers event reply old.memory new.memory doubt old.disk new.disk
+      → Stepped converters event reply doubt old new
 
 -- memory ran out in the command of the line, in which no call of the disk had failed
 pub record IsStopped (told : Bool) (converters : Converters) (text : List ℕ) (before : Memory)
@@ -111,7 +102,7 @@ pub record IsStopped (told : Bool) (converters : Converters) (text : List ℕ) (
   pub event : Event
   pub spelled : IsLine text (line.Event event)
   pub stopped : IsTrue told → (doubt : Option Doubt) → IsDoubt before doubt
-      → Stopped converters.rules converters.answers event before doubt old new
+      → Stopped converters event doubt (runtime_at before old) new
   pub fed : new.faults ≡ old.faults
 
 -- what came of a line
@@ -132,15 +123,15 @@ IsLineOutcome of_disk converters text old new outcome.OutOfMemory = (new.disk �
 
 -- on a disk whose bytes are modelled: there is a doubt (a command failed at the device, and nobody knows how much of it
 -- was done) or none, and the run goes on from there
-abbrev pub IsGoing : List Rule → Answers → (start : Medium) → List Turn → Memory → (now : Medium) → Type 0
-IsGoing rules answers start turns memory now = (doubt : Option Doubt) × IsDoubt memory doubt
-    × Going rules answers (world_at start.image) (after_start (world_at start.image)) turns memory doubt start now
+abbrev pub IsGoing : Converters → (start : Medium) → List Turn → Memory → (now : Medium) → Type 0
+IsGoing converters start turns memory now = (doubt : Option Doubt) × IsDoubt memory doubt
+    × Going converters start turns doubt (runtime_at memory now)
 
 -- The commands were answered since the start of the run, each with its cause.
 pub record Goes (told : Bool) (converters : Converters) (start : Medium) (turns : List Turn) (memory : Memory)
     (now : Medium) : Type 0 where
   pub blamed : AreBlamed start.faults turns now.faults
-  pub disk : IsTrue told → IsGoing converters.rules converters.answers start turns memory now
+  pub disk : IsTrue told → IsGoing converters start turns memory now
 
 -- what a run sets out with: whether the bytes of its disk are modelled, its converters, the disk when the runtime
 -- started, and what the sink had taken then

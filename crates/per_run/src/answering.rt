@@ -4,12 +4,12 @@ ghost use Rattle.std.specs.Prelude.{◌≡◌, ℕ, List, IsTrue, None, ◌≢�
 ghost use Rattle.disk_model.specs.Medium.{Elapses};
 ghost use Rattle.command_text.specs.Grammar.{IsEvent, IsLine};
 ghost use Rattle.command_text.specs.declared.lines.Line.{Line};
-ghost use Rattle.run_model.specs.Runtimes.{world_of};
-ghost use Rattle.run_model.specs.Edges.{converters_of};
+ghost use Rattle.run_model.specs.Converters.{converters_of};
+ghost use Rattle.run_model.specs.Runtimes.{runtime_at, world_of};
 ghost use Rattle.per_runtime.specs.Memories.{IsRuntime, memory_of};
 ghost use Rattle.per_runtime.specs.Needs.{CommandMayStarve};
 ghost use Rattle.per_run.specs.Needs.{LineMayStarve};
-ghost use Rattle.per_run.specs.Steps.{IsLineOutcome, runtime_at};
+ghost use Rattle.per_run.specs.Steps.{IsLineOutcome};
 ghost use Rattle.per_run.specs.declared.answering.LineOutcome.{LineOutcome};
 
 use command_text::{Event, Line, LineError, Reply, parse_line};

@@ -2,7 +2,8 @@
 
 ghost use Rattle.std.specs.Prelude.{◌≡◌, ◌⊎◌, ◌+◌, IfSome, IsSomeAnd, false, map, string_bytes, ◌≢◌};
 ghost use Rattle.per_base.specs.Causes.{Rose};
-ghost use Rattle.run_model.specs.Edges.{converters_of, edges};
+ghost use Rattle.run_model.specs.Converters.{converters_of};
+ghost use Rattle.run_model.specs.Edges.{edges};
 ghost use Rattle.run_model.specs.Lines.{IsWellFormed};
 ghost use Rattle.per_run.specs.Flashes.{FlashRan, HasNotRun, IfRan, IfUnopened, IsHandedBack, IsNotOpened, IsWrongSize};
 ghost use Rattle.per_run.specs.Steps.{IsInRange};

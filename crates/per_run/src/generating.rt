@@ -7,7 +7,7 @@ ghost use Rattle.per_base.specs.Causes.{Rose};
 ghost use Rattle.command_text.specs.declared.replies.Reply.{Reply};
 ghost use Rattle.command_text.specs.Generated.{generated, generated_lines};
 ghost use Rattle.run_model.specs.AppLaws.{AppLaws};
-ghost use Rattle.run_model.specs.Edges.{converters_of};
+ghost use Rattle.run_model.specs.Converters.{converters_of};
 ghost use Rattle.run_model.specs.Turns.{bytes_now};
 ghost use Rattle.per_runtime.specs.Memories.{IsRuntime, memory_of};
 ghost use Rattle.per_run.specs.Jobs.{BeginWith, Generates, WritesOutput, outputs, summary};

@@ -3,7 +3,8 @@
 ghost use Rattle.std.specs.Prelude.{◌≡◌, ◌⊎◌, IfSome, None, false, map, string_bytes};
 ghost use Rattle.disk_model.specs.Medium.{Elapses};
 ghost use Rattle.per_base.specs.Causes.{Rose};
-ghost use Rattle.run_model.specs.Edges.{converters_of, edges, failures_at};
+ghost use Rattle.run_model.specs.Converters.{converters_of};
+ghost use Rattle.run_model.specs.Edges.{edges, failures_at};
 ghost use Rattle.run_model.specs.Lines.{IsWellFormed};
 ghost use Rattle.per_run.specs.Jobs.{IsCaused, JobDone};
 ghost use Rattle.per_run.specs.Steps.{IsInRange};

@@ -7,15 +7,15 @@ ghost use Rattle.command_text.specs.Grammar.{IsEvent, IsLine};
 ghost use Rattle.command_text.specs.Replies.{HasText, reply_text};
 ghost use Rattle.command_text.specs.declared.lines.Line.{Line};
 ghost use Rattle.run_model.specs.AppLaws.{AppLaws};
+ghost use Rattle.run_model.specs.Converters.{converters_of};
 ghost use Rattle.run_model.specs.Endings.{bad_line_text};
 ghost use Rattle.run_model.specs.Lines.{lines_of};
-ghost use Rattle.run_model.specs.Runtimes.{world_of};
-ghost use Rattle.run_model.specs.Edges.{converters_of};
+ghost use Rattle.run_model.specs.Runtimes.{runtime_at, world_of};
 ghost use Rattle.per_runtime.specs.Memories.{IsRuntime, memory_of};
 ghost use Rattle.per_runtime.specs.Needs.{CommandMayStarve};
 ghost use Rattle.per_run.specs.Needs.{HandlingMayStarve, ReplyMayStarve};
 ghost use Rattle.per_run.specs.Steps.{Blamed, Blames, Course, Handled, HasNoFeed, IsBadLineAnswer, IsBroken, outset};
-ghost use Rattle.per_run.specs.Steps.{PutsOutput, Reached, reading, runtime_at};
+ghost use Rattle.per_run.specs.Steps.{PutsOutput, Reached, reading};
 ghost use Rattle.per_run.specs.Steps.{ending_of};
 
 use crate::endings::Ending;
@@ -426,8 +426,8 @@ fn handle_event<D: Disk, K: Sink>(
 
 /// Writes the reply of a command.
 ///
-/// Many bytes, and a value with others in it, are written piece by piece. Where memory runs out the sink takes nothing of the reply, and where the sink
-/// fails not all.
+/// Many bytes, and a value with others in it, are written piece by piece. Where memory runs out the sink takes nothing
+/// of the reply, and where the sink fails not all.
 pub fn write_reply<K: Sink>(
     alloc: Global,
     sink: &mut K,

@@ -4,7 +4,8 @@ ghost use Rattle.std.specs.Prelude.{◌≡◌, ◌<◌, ℕ, List, [], Option, l
 ghost use Rattle.disk_model.specs.Medium.{Elapses};
 ghost use Rattle.per_base.specs.Causes.{Rose};
 ghost use Rattle.run_model.specs.AppLaws.{AppLaws};
-ghost use Rattle.run_model.specs.Edges.{converters_of, edges};
+ghost use Rattle.run_model.specs.Converters.{converters_of};
+ghost use Rattle.run_model.specs.Edges.{edges};
 ghost use Rattle.run_model.specs.Runs.{Run};
 ghost use Rattle.per_runtime.specs.Memories.{IsRuntime, memory_of};
 ghost use Rattle.per_run.specs.Steps.{Blamed, Handled, RanOverInput, Reached, outset, reading};

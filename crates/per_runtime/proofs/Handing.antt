@@ -6,7 +6,6 @@ use Rattle.std.proofs.lemmas.Option.{slice_get_read}
 use Rattle.disk_model.specs.Frame.{Spares}
 use Rattle.disk_model.specs.Image.{Image}
 use Rattle.disk_model.specs.Medium.{Medium, Quiet, IsLawful, OnlyReads}
-use Rattle.migrate_fns.specs.Rules.{Rule, Answers}
 use Rattle.command_text.specs.declared.calls.Call.{Call}
 use Rattle.command_text.specs.declared.calls.Event.TheVariants as event
 use Rattle.command_text.specs.declared.replies.Reply.{Reply}
@@ -15,7 +14,8 @@ use Rattle.deploy.specs.declared.errors.Stop.TheVariants.{Device, OutOfMemory}
 use Rattle.deploy_laws.specs.Apps.{app_at}
 use Rattle.deploy_laws.specs.Places.{IsNoFileOf}
 use Rattle.run_model.specs.AppLaws.{AppLaws}
-use Rattle.run_model.specs.Runtimes.{IsDoubt, Stepped, Stopped, calls_none, world_of}
+use Rattle.run_model.specs.Converters.{Converters}
+use Rattle.run_model.specs.Runtimes.{IsDoubt, Stepped, Stopped, calls_none, world_of, runtime_at}
 use Rattle.run_model.specs.Steps.{calls_device, failure}
 use Rattle.run_model.specs.Lasting.{IsWorld}
 use Rattle.run_model.specs.Worlds.{Application, Doubt, app_of}
@@ -54,18 +54,19 @@ pub memory_end : (answered : Reply → Type 0) (failed stopped : Type 0) (stop :
     → IfEnded (Err stop) answered failed stopped → stopped
 memory_end answered failed stopped stop is end = subst (λ (s : Stop). IfEnded (Err s) answered failed stopped) is end
 
-module _ (laws : AppLaws) (makes : MakesOne) (stays : StaysInUse) (rules : List Rule) (answers : Answers) (told : Bool)
+module _ (laws : AppLaws) (makes : MakesOne) (stays : StaysInUse) (converters : Converters) (told : Bool)
     (old new : Medium) (now n : ℕ) (c : Call) (apps : List Running)
     (a a' : Running) (b : Bool) (below : n < 8) (are : AreRunning told old.image apps) (quiet : b ≡ false → Quiet old)
     (there_is : slice_get apps n ≡ Some a)
     (calm : b ≡ true → IsTrue told → (x : Running) → slice_get apps n ≡ Some x
     → calls_device (application old.image x) c ≡ false)
     (Untouched : Type 0) (reads : Untouched → OnlyReads old new) (result : Result Reply Stop)
-    (h : IsHandled told rules answers now c a a' Untouched old new result) where
+    (h : IsHandled told converters now c a a' Untouched old new result) where
   number : a.app ≡ n
   number = (are.each n a there_is).0
 
-  in_use : a'.app ≡ a.app → IsRunning told new.image a' → (IsTrue told → Spares (IsNoFileOf a.app) old.image new.image)
+  in_use : a'.app ≡ a.app → IsRunning told new.image a'
+      → (IsTrue told → Spares (IsNoFileOf a.app) old.image new.image)
       → AreRunning told new.image (slice_set apps n a')
   in_use same used elsewhere = are_set stays told old.image new.image n apps a' below (same ∙ number)
       (λ tells f outside. elsewhere tells f (subst (λ (k : ℕ). IsNoFileOf k f) (sym number) outside)) used are
@@ -93,32 +94,33 @@ module _ (laws : AppLaws) (makes : MakesOne) (stays : StaysInUse) (rules : List 
 
   -- answered
 
-  pub answered_use : (reply : Reply) → IsCommandAnswered told rules answers now c a a' old new reply
+  pub answered_use : (reply : Reply) → IsCommandAnswered told converters now c a a' old new reply
       → AreRunning told new.image (slice_set apps n a')
   answered_use reply is = in_use is.app is.memory (λ tells. (is.done tells).calls.elsewhere)
 
-  pub answered_steps : (reply : Reply) → IsCommandAnswered told rules answers now c a a' old new reply → IsTrue told
+  pub answered_steps : (reply : Reply) → IsCommandAnswered told converters now c a a' old new reply → IsTrue told
       → (doubt : Option Doubt) → IsDoubt (kept now apps b) doubt
-      → Stepped rules answers (event.App n c) reply (kept now apps b) (kept now (slice_set apps n a') b) doubt old new
-  answered_steps reply is tells None sure = answered_sure laws rules answers told tells old new now n c apps a a' below
+      → Stepped converters (event.App n c) reply doubt (runtime_at (kept now apps b) old)
+      (runtime_at (kept now (slice_set apps n a') b) new)
+  answered_steps reply is tells None sure = answered_sure laws converters told tells old new now n c apps a a' below
       are.eight there_is number h.time (λ none. reads (h.idle tells none)) (h.written tells) h.looks
       (h.place tells) (h.within tells)
       reply b sure is (quiet (sym sure)) (world_on tells (answered_use reply is))
-  answered_steps reply is tells (Some d) sure = answered_doubtful laws rules answers told tells old new now n c apps a
+  answered_steps reply is tells (Some d) sure = answered_doubtful laws converters told tells old new now n c apps a
       a' below are.eight there_is number h.time (λ none. reads (h.idle tells none)) (h.written tells) h.looks
       (h.place tells) (h.within tells)
       reply d b sure is (calm_here sure tells) (world_on tells (answered_use reply is))
 
   -- failed at the device
 
-  pub failed_use : IsFailed told rules answers now c a a' old new → AreRunning told new.image (slice_set apps n a')
+  pub failed_use : IsFailed told converters now c a a' old new → AreRunning told new.image (slice_set apps n a')
   failed_use is = in_use is.app is.memory (λ tells. (is.progress tells).calls.elsewhere)
 
-  pub failed_steps : IsFailed told rules answers now c a a' old new → IsLawful told new → IsTrue told
+  pub failed_steps : IsFailed told converters now c a a' old new → IsLawful told new → IsTrue told
       → (doubt : Option Doubt) → IsDoubt (kept now apps b) doubt
-      → Stepped rules answers (event.App n c) failure (kept now apps b) (kept now (slice_set apps n a') true) doubt old
-      new
-  failed_steps is lawful tells None sure = failed_sure laws rules answers told tells old new now n c apps a a' below
+      → Stepped converters (event.App n c) failure doubt (runtime_at (kept now apps b) old)
+      (runtime_at (kept now (slice_set apps n a') true) new)
+  failed_steps is lawful tells None sure = failed_sure laws converters told tells old new now n c apps a a' below
       are.eight there_is number h.time (λ none. reads (h.idle tells none)) (h.written tells) h.looks
       (h.place tells) (h.within tells)
       b sure is lawful (quiet (sym sure)) (world_on tells (failed_use is))
@@ -127,14 +129,14 @@ module _ (laws : AppLaws) (makes : MakesOne) (stays : StaysInUse) (rules : List 
 
   -- out of memory
 
-  pub stopped_steps : (IsTrue told → IsCallInProgress rules answers a.app now c (application old.image a) old new)
+  pub stopped_steps : (IsTrue told → IsCallInProgress converters a.app now c (application old.image a) old new)
       → IsTrue told → (doubt : Option Doubt) → IsDoubt (kept now apps b) doubt
-      → Stopped rules answers (event.App n c) (kept now apps b) doubt old new
-  stopped_steps is tells None sure = stopped_sure laws rules answers told tells old new now n c apps a a' below
+      → Stopped converters (event.App n c) doubt (runtime_at (kept now apps b) old) new
+  stopped_steps is tells None sure = stopped_sure laws converters told tells old new now n c apps a a' below
       are.eight there_is number h.time (λ none. reads (h.idle tells none)) (h.written tells) h.looks
       (h.place tells) (h.within tells)
       b sure (is tells) (quiet (sym sure))
-  stopped_steps is tells (Some d) sure = stopped_doubtful laws rules answers told tells old new now n c apps a a' below
+  stopped_steps is tells (Some d) sure = stopped_doubtful laws converters told tells old new now n c apps a a' below
       are.eight there_is number h.time (λ none. reads (h.idle tells none)) (h.written tells) h.looks
       (h.place tells) (h.within tells)
       d b sure (calm_here sure tells)

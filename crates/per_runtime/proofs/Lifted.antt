@@ -6,7 +6,6 @@ use Rattle.per_base.specs.declared.errors.PerError.TheVariants as error
 use Rattle.std.proofs.lemmas.List.{length-map}
 use Rattle.disk_model.specs.Frame.{Spares}
 use Rattle.disk_model.specs.Medium.{Medium, Quiet, Elapses, EachCase, IsLawful, OnlyReads}
-use Rattle.migrate_fns.specs.Rules.{Rule, Answers}
 use Rattle.command_text.specs.declared.calls.Call.{Call}
 use Rattle.command_text.specs.declared.calls.Event.{Event}
 use Rattle.command_text.specs.declared.calls.Event.TheVariants as event
@@ -17,13 +16,14 @@ use Rattle.deploy_laws.specs.Places.{IsBeside}
 use Rattle.deploy_laws.specs.Stands.{StandsCase}
 use Rattle.run_model.specs.AppLaws.{AppLaws, Calls}
 use Rattle.run_model.specs.Calls.{beside_update, session_at}
+use Rattle.run_model.specs.Converters.{Converters}
 use Rattle.run_model.specs.Found.{FoundStorage}
 use Rattle.run_model.specs.KeepLaws.{call_fails, call_keeps, each_moment, idle_keeps}
 use Rattle.run_model.specs.Later.{set_length}
 use Rattle.run_model.specs.Lasting.{IsWorld}
 use Rattle.run_model.specs.Moments.{IsReady, KeepsApplication}
 use Rattle.run_model.specs.Runtimes.{Memory, IsBesideNamed, IsDoubt, IsUnwritten, StaysAside, Stepped, Stopped}
-use Rattle.run_model.specs.Runtimes.{WritesWithin}
+use Rattle.run_model.specs.Runtimes.{WritesWithin, runtime_at}
 use Rattle.run_model.specs.Runtimes.{WrittenBy, calls_none, is_durable, is_refusal, only_looks, only_plans, opens_root}
 use Rattle.run_model.specs.Runtimes.{writes_none}
 use Rattle.run_model.specs.Sessions.{Session}
@@ -33,7 +33,7 @@ use Rattle.run_model.specs.Steps.{passes_refusals}
 use Rattle.run_model.specs.Steps.{root_opened, uses_device}
 use Rattle.run_model.specs.Turns.{IsBlamed, bytes_now}
 use Rattle.run_model.specs.Worlds.{Application, Disks, Doubt, World, app_of, disk_at, disks, is_to_open, update_in}
-use Rattle.run_model.specs.Worlds.{with_app, world_at}
+use Rattle.run_model.specs.Worlds.{with_app, world_at, application_at}
 use Rattle.run_model.specs.Writes.{IsCallWithin, IsCommandWithin, OnlyOpens, OpensAtMost}
 use Rattle.per_runtime.specs.storages.Answers.{CallsTo}
 use Rattle.per_runtime.specs.storages.Handled.{StaysInPlace}
@@ -93,12 +93,12 @@ never_fails app now a r c r' calm (inr fails) = not_both (uses_device r.disk c)
 pub not_four : answer.Done ≡ answer.Error error.PhysicalStorageFailure → ⊥
 not_four e = cc
 
-pub now_steps : AppLaws → MakesOne → (rules : List Rule) (answers : Answers) (told : Bool) (m : Medium) (now t : ℕ)
+pub now_steps : AppLaws → MakesOne → (converters : Converters) (told : Bool) (m : Medium) (now t : ℕ)
     (apps : List Running) (b : Bool) → IsTrue told → IsLawful told m
     → AreRunning told m.image apps → (b ≡ false → Quiet m) → (doubt : Option Doubt) → IsDoubt (kept now apps b) doubt
-    → Stepped rules answers (event.Now t) (record { reports = []; answer = answer.Done }) (kept now apps b)
-    (kept t apps b) doubt m m
-now_steps laws makes rules answers told m now t apps b tells lawful are quiet doubt is = record {
+    → Stepped converters (event.Now t) (record { reports = []; answer = answer.Done }) doubt
+    (runtime_at (kept now apps b) m) (runtime_at (kept t apps b) m)
+now_steps laws makes converters told m now t apps b tells lawful are quiet doubt is = record {
   eight = length-map apps running_in ∙ are.eight;
   doubt' = doubt;
   is_doubt = is;
@@ -119,7 +119,7 @@ now_steps laws makes rules answers told m now t apps b tells lawful are quiet do
 
 -- ---- a call of one application
 
-module _ (laws : AppLaws) (rules : List Rule) (answers : Answers) (told : Bool) (tells : IsTrue told) (old new : Medium)
+module _ (laws : AppLaws) (converters : Converters) (told : Bool) (tells : IsTrue told) (old new : Medium)
     (now n : ℕ) (c : Call) (apps : List Running) (a a' : Running)
     (below : n < 8) (eight : length apps ≡ 8) (there : slice_get apps n ≡ Some a) (number : a.app ≡ n)
     (time : Elapses old new)
@@ -130,7 +130,8 @@ module _ (laws : AppLaws) (rules : List Rule) (answers : Answers) (told : Bool) 
     (looks : only_plans c ≡ true → is_to_open (stage_in a.stage) ≡ false → IsUnwritten old new)
     (place : is_to_open (stage_in a.stage) ≡ false
     → StaysInPlace a.app c (application old.image a) old.image new.image)
-    (within : IsCallWithin rules answers a.app now (application old.image a) c (bytes_now old) (bytes_now new)) where
+    (within : IsCallWithin converters (application_at a.app now (application old.image a)) c (bytes_now old)
+    (bytes_now new)) where
   -- the world before, and what is on the disk then
   before : Option Doubt → World
   before doubt = world old.image now apps doubt
@@ -187,11 +188,13 @@ module _ (laws : AppLaws) (rules : List Rule) (answers : Answers) (told : Bool) 
       (subst (λ (r : Application). found_named r c ≡ Some (Ok f)) (it_is doubt) found)
       (subst (λ (r : Application). session_at r f.number ≡ Some s) (it_is doubt) open_there))
 
-  within_on : (doubt : Option Doubt) → IsCommandWithin rules answers (before doubt) e (bytes_now old) (bytes_now new)
+  within_on : (doubt : Option Doubt) → IsCommandWithin converters (before doubt) e (bytes_now old) (bytes_now new)
   unfolding e before
-  within_on doubt = subst (λ (r : Application). IsCallWithin rules answers n now r c (bytes_now old) (bytes_now new))
+  within_on doubt = subst
+      (λ (r : Application). IsCallWithin converters (application_at n now r) c (bytes_now old) (bytes_now new))
       (sym (it_is doubt))
-      (subst (λ (k : ℕ). IsCallWithin rules answers k now (application old.image a) c (bytes_now old) (bytes_now new))
+      (subst (λ (k : ℕ). IsCallWithin converters (application_at k now (application old.image a)) c (bytes_now old)
+      (bytes_now new))
       number within)
 
   opened_on : (doubt : Option Doubt) → OpensAtMost a.app (stage_in a.stage) (bytes_now old) (bytes_now new)
@@ -239,8 +242,8 @@ module _ (laws : AppLaws) (rules : List Rule) (answers : Answers) (told : Bool) 
 
   -- ---- where it leads
 
-  leads_on : (next : App) → IsLedTo rules answers n now c (application old.image a) next → (doubt : Option Doubt)
-      → Leads rules answers (before doubt) e (after next)
+  leads_on : (next : App) → IsLedTo converters n now c (application old.image a) next → (doubt : Option Doubt)
+      → Leads converters (before doubt) e (after next)
   unfolding e after was before
   leads_on next (inl same) doubt = inl (set_same was n next
       (disk_in old.image now apps None n a there number ∙ ap (λ (x : App). Some x)
@@ -255,7 +258,7 @@ module _ (laws : AppLaws) (rules : List Rule) (answers : Answers) (told : Bool) 
         v,
         (
           led.0,
-          subst (λ (r : Application). AppStep rules answers n now r c led.0) (sym (it_is None)) led.1,
+          subst (λ (r : Application). AppStep converters (application_at n now r) c led.0) (sym (it_is None)) led.1,
           refl,
           refl,
         ),
@@ -265,18 +268,19 @@ module _ (laws : AppLaws) (rules : List Rule) (answers : Answers) (told : Bool) 
 
   -- ---- it was answered, without a doubt before it
 
-  done_calls : (reply : Reply) → IsCommandAnswered told rules answers now c a a' old new reply
+  done_calls : (reply : Reply) → IsCommandAnswered told converters now c a a' old new reply
       → CallsTo n (app_at new.image n) old new
   done_calls reply h = subst (λ k. CallsTo k (app_at new.image k) old new) number (h.done tells).calls
 
-  done_step : (reply : Reply) (doubt : Option Doubt) → IsCommandAnswered told rules answers now c a a' old new reply
-      → AppStep rules answers n now (app_of (before doubt) n) c (reply, application new.image a')
+  done_step : (reply : Reply) (doubt : Option Doubt) → IsCommandAnswered told converters now c a a' old new reply
+      → AppStep converters (application_at n now (app_of (before doubt) n)) c (reply, application new.image a')
   done_step reply doubt h = subst (λ (r : Application).
-      AppStep rules answers n now r c (reply, application new.image a')) (sym (it_is doubt))
-      (subst (λ k. AppStep rules answers k now (application old.image a) c (reply, application new.image a')) number
+      AppStep converters (application_at n now r) c (reply, application new.image a')) (sym (it_is doubt))
+      (subst (λ k. AppStep converters (application_at k now (application old.image a)) c
+      (reply, application new.image a')) number
       (h.done tells).step)
 
-  blamed_on : (reply : Reply) → IsCommandAnswered told rules answers now c a a' old new reply
+  blamed_on : (reply : Reply) → IsCommandAnswered told converters now c a a' old new reply
       → IsBlamed old.faults new.faults reply
   blamed_on reply h = record {
     later = time.faults;
@@ -301,11 +305,12 @@ module _ (laws : AppLaws) (rules : List Rule) (answers : Answers) (told : Bool) 
       ∙ disks_set (before None) n (application new.image a') doubt'
       ∙ ap (λ (k : ℕ). slice_set (disks (before None)) n (app_at new.image k)) number'
 
-  pub answered_sure : (reply : Reply) (b : Bool) → false ≡ b → IsCommandAnswered told rules answers now c a a' old new
+  pub answered_sure : (reply : Reply) (b : Bool) → false ≡ b → IsCommandAnswered told converters now c a a' old new
       reply
       → Quiet old
       → ((doubt : Option Doubt) → IsWorld (world new.image now (slice_set apps n a') doubt))
-      → Stepped rules answers (event.App n c) reply (kept now apps b) (kept now (slice_set apps n a') b) None old new
+      → Stepped converters (event.App n c) reply None (runtime_at (kept now apps b) old)
+      (runtime_at (kept now (slice_set apps n a') b) new)
   unfolding then before after was e
   answered_sure reply b sure h quiet world =
       let number' : a'.app ≡ n = h.app ∙ number in
@@ -360,10 +365,10 @@ module _ (laws : AppLaws) (rules : List Rule) (answers : Answers) (told : Bool) 
   }
 
   pub answered_doubtful : (reply : Reply) (d : Doubt) (b : Bool) → true ≡ b
-      → IsCommandAnswered told rules answers now c a a' old new reply → calls_device (application old.image a) c ≡ false
+      → IsCommandAnswered told converters now c a a' old new reply → calls_device (application old.image a) c ≡ false
       → ((doubt : Option Doubt) → IsWorld (world new.image now (slice_set apps n a') doubt))
-      → Stepped rules answers (event.App n c) reply (kept now apps b) (kept now (slice_set apps n a') b) (Some d) old
-      new
+      → Stepped converters (event.App n c) reply (Some d) (runtime_at (kept now apps b) old)
+      (runtime_at (kept now (slice_set apps n a') b) new)
   unfolding then before e
   answered_doubtful reply d b sure h calm world =
       let reads : OnlyReads old new = idle calm in
@@ -397,22 +402,22 @@ module _ (laws : AppLaws) (rules : List Rule) (answers : Answers) (told : Bool) 
 
   -- ---- its device failed, without a doubt before it
 
-  failed_is : IsFailed told rules answers now c a a' old new
+  failed_is : IsFailed told converters now c a a' old new
       → FailsAs n now (app_at new.image n) (app_of (before None) n) c (application new.image a')
   failed_is h = subst (λ (r : Application). FailsAs n now (app_at new.image n) r c (application new.image a'))
       (sym (it_is None))
       (subst (λ k. FailsAs k now (app_at new.image k) (application old.image a) c (application new.image a')) number
       (h.fails tells))
 
-  led_on : (next : App) → IsLedTo rules answers a.app now c (application old.image a) next
-      → IsLedTo rules answers n now c (application old.image a) next
-  led_on next led = subst (λ k. IsLedTo rules answers k now c (application old.image a) next) number led
+  led_on : (next : App) → IsLedTo converters a.app now c (application old.image a) next
+      → IsLedTo converters n now c (application old.image a) next
+  led_on next led = subst (λ k. IsLedTo converters k now c (application old.image a) next) number led
 
-  pub failed_sure : (b : Bool) → false ≡ b → IsFailed told rules answers now c a a' old new → IsLawful told new
+  pub failed_sure : (b : Bool) → false ≡ b → IsFailed told converters now c a a' old new → IsLawful told new
       → Quiet old
       → ((doubt : Option Doubt) → IsWorld (world new.image now (slice_set apps n a') doubt))
-      → Stepped rules answers (event.App n c) failure (kept now apps b) (kept now (slice_set apps n a') true) None old
-      new
+      → Stepped converters (event.App n c) failure None (runtime_at (kept now apps b) old)
+      (runtime_at (kept now (slice_set apps n a') true) new)
   unfolding then before after was e
   failed_sure b sure h lawful quiet world =
       let number' : a'.app ≡ n = h.app ∙ number in
@@ -456,10 +461,10 @@ module _ (laws : AppLaws) (rules : List Rule) (answers : Answers) (told : Bool) 
 
   -- ---- memory ran out
 
-  pub stopped_sure : (b : Bool) → false ≡ b → IsCallInProgress rules answers a.app now c
+  pub stopped_sure : (b : Bool) → false ≡ b → IsCallInProgress converters a.app now c
       (application old.image a) old new
       → Quiet old
-      → Stopped rules answers (event.App n c) (kept now apps b) None old new
+      → Stopped converters (event.App n c) None (runtime_at (kept now apps b) old) new
   unfolding before after was e
   stopped_sure b sure progress quiet =
       let calls : CallsTo n progress.next old new = calls_on progress.next progress.calls in
@@ -477,7 +482,7 @@ module _ (laws : AppLaws) (rules : List Rule) (answers : Answers) (told : Bool) 
       }
 
   pub stopped_doubtful : (d : Doubt) (b : Bool) → true ≡ b → calls_device (application old.image a) c ≡ false
-      → Stopped rules answers (event.App n c) (kept now apps b) (Some d) old new
+      → Stopped converters (event.App n c) (Some d) (runtime_at (kept now apps b) old) new
   unfolding before was e
   stopped_doubtful d b sure calm =
       let reads : OnlyReads old new = idle calm in

@@ -1,5 +1,5 @@
 -- A call of one application: as its row says where its root is in use, and after the opening of one that is to be opened.
-use Rattle.std.specs.Prelude.{◌≡◌, ◌⊎◌, ◌≤◌, ◌+◌, ℕ, List, Bool, true, false, cond, ◌||◌, IsTrue, Some, None, Result}
+use Rattle.std.specs.Prelude.{◌≡◌, ◌⊎◌, ◌≤◌, ◌+◌, ℕ, Bool, true, false, cond, ◌||◌, IsTrue, Some, None, Result}
 use Rattle.std.specs.Prelude.{Ok, Err, IsErrOf, slice_get}
 use Rattle.std.proofs.Common.{refl, sym, ap, ◌∙◌, subst, inl, inr, ⊎_elim, true≢false}
 use Rattle.per_base.specs.Causes.{Rose}
@@ -9,7 +9,6 @@ use Rattle.disk_model.specs.Image.{Image}
 use Rattle.disk_model.specs.Laws.{cases_on, reads_none, rose_before}
 use Rattle.disk_model.specs.Medium.{Medium, Quiet, Elapses, IsLawful, OnlyReads}
 use Rattle.disk_model.specs.Place.{IsNoSlot}
-use Rattle.migrate_fns.specs.Rules.{Rule, Answers}
 use Rattle.command_text.specs.declared.calls.Call.{Call}
 use Rattle.command_text.specs.declared.replies.Reply.{Reply}
 use Rattle.deploy.specs.declared.errors.Stop.{Stop}
@@ -22,6 +21,7 @@ use Rattle.deploy_rows.specs.Rows.{reopened}
 use Rattle.deploy_rows.specs.Costs.{manifests_at, root_cost}
 use Rattle.run_model.specs.AppLaws.{OpensRoot}
 use Rattle.run_model.specs.Calls.{Outcome, StepBeside, beside_update, if_open, session_at}
+use Rattle.run_model.specs.Converters.{Converters}
 use Rattle.run_model.specs.Found.{FoundStorage}
 use Rattle.run_model.specs.Lasting.{IsApplication, IsStageOn}
 use Rattle.run_model.specs.OneApp.{as_app, none_there}
@@ -33,6 +33,7 @@ use Rattle.run_model.specs.Steps.{root_opened, uses_device}
 use Rattle.run_model.specs.Turns.{bytes_now}
 use Rattle.run_model.specs.WriteLaws.{call_behind, call_unbegun, opens_alone, opens_nothing}
 use Rattle.run_model.specs.Worlds.{Application, Stage, Sessions, at_rest, is_to_open, none_open, to_open, update_in}
+use Rattle.run_model.specs.Worlds.{application_at}
 use Rattle.run_model.specs.Writes.{IsCallWithin, NeedsNothing}
 use Rattle.per_runtime.specs.storages.Answers.{CallsTo}
 use Rattle.per_runtime.specs.application.Answers as calls
@@ -49,19 +50,20 @@ use Rattle.per_runtime.specs.Handled.{IfEnded, IsCallInProgress, IsCommandAnswer
 pub not_opened : (r : Application) → is_to_open r.stage ≡ false → root_opened r ≡ r
 not_opened r rests = ap (λ (b : Bool). cond b (record r { disk = reopened r.disk; stage = at_rest }) r) rests
 
-row_step : (rules : List Rule) (answers : Answers) (app now : ℕ) (c : Call) (before behind : Application)
+row_step : (converters : Converters) (app now : ℕ) (c : Call) (before behind : Application)
     (outcome : Outcome) → behind ≡ root_opened before
-    → HasRow rules answers app now c behind outcome → AppStep rules answers app now before c outcome
-row_step rules answers app now c before behind outcome is row =
-    subst (λ (r : Application). StepBeside rules answers app now r c (beside_update (update_in r.stage) c) outcome) is
+    → HasRow converters app now c behind outcome → AppStep converters (application_at app now before) c outcome
+row_step converters app now c before behind outcome is row =
+    subst (λ (r : Application). StepBeside converters (application_at app now r) c
+    (beside_update (update_in r.stage) c) outcome) is
     row
 
-led : (rules : List Rule) (answers : Answers) (app now : ℕ) (c : Call) (before : Application) (next : App)
+led : (converters : Converters) (app now : ℕ) (c : Call) (before : Application) (next : App)
     → before ≡ root_opened before
-    → calls.MayLead rules answers app now c before next → IsLedTo rules answers app now c before next
-led rules answers app now c before next is (inl same) = inl same
-led rules answers app now c before next is (inr row) =
-    inr (row.0, row_step rules answers app now c before before row.0 is row.1, row.2)
+    → calls.MayLead converters app now c before next → IsLedTo converters app now c before next
+led converters app now c before next is (inl same) = inl same
+led converters app now c before next is (inr row) =
+    inr (row.0, row_step converters app now c before before row.0 is row.1, row.2)
 
 uses_none : (r : Application) (c : Call) → calls_device r c ≡ false → uses_device r.disk c ≡ false
 uses_none r c none = by (is_to_open r.stage) (uses_device r.disk c) none
@@ -74,13 +76,13 @@ memory_left : IsErrOf {T = Reply} (Err Device) OutOfMemory → ⊥
 memory_left e = cc
 
 -- by how the call ends
-called : (told : Bool) (rules : List Rule) (answers : Answers) (now : ℕ) (c : Call) (a a' : Running)
+called : (told : Bool) (converters : Converters) (now : ℕ) (c : Call) (a a' : Running)
     (Untouched : Type 0) (old new : Medium) (result : Result Reply Stop) → is_to_open (stage_in a.stage) ≡ false
-    → Promises told rules answers now c a a' Untouched old new result
-    → IfEnded result (IsCommandAnswered told rules answers now c a a' old new)
-    (IsFailed told rules answers now c a a' old new)
-    (IsTrue told → IsCallInProgress rules answers a.app now c (application old.image a) old new)
-called told rules answers now c a a' Untouched old new (Ok reply) rests said = record {
+    → Promises told converters now c a a' Untouched old new result
+    → IfEnded result (IsCommandAnswered told converters now c a a' old new)
+    (IsFailed told converters now c a a' old new)
+    (IsTrue told → IsCallInProgress converters a.app now c (application old.image a) old new)
+called told converters now c a a' Untouched old new (Ok reply) rests said = record {
   app = said.app;
   memory = said.memory (λ e. absurd cc);
   text = said.text;
@@ -91,7 +93,7 @@ called told rules answers now c a a' Untouched old new (Ok reply) rests said = r
   refused = λ tells refused. let none = said.unwritten refused in
       opens_nothing a.app (stage_in a.stage) (bytes_now old) (bytes_now new) none.0 none.1;
   done = λ tells. let is = said.answered tells in record {
-    step = row_step rules answers a.app now c (application old.image a) (application old.image a)
+    step = row_step converters a.app now c (application old.image a) (application old.image a)
         (reply, application new.image a')
         (sym (not_opened (application old.image a) rests)) is.row;
     later = is.later;
@@ -99,7 +101,7 @@ called told rules answers now c a a' Untouched old new (Ok reply) rests said = r
     clean = is.clean;
   };
 }
-called told rules answers now c a a' Untouched old new (Err Device) rests said = record {
+called told converters now c a a' Untouched old new (Err Device) rests said = record {
   app = said.app;
   memory = said.memory memory_left;
   cause = said.cause refl;
@@ -112,28 +114,28 @@ called told rules answers now c a a' Untouched old new (Err Device) rests said =
       ≡ after_failure (app_at new.image a.app) r (found_named r c)))) same (inr (is.reaches, is.is_after));
   progress = λ tells. let is = said.failed tells refl in record {
     next = is.next;
-    leads = led rules answers a.app now c (application old.image a) is.next
+    leads = led converters a.app now c (application old.image a) is.next
         (sym (not_opened (application old.image a) rests)) is.leads;
     later = is.later;
     calls = is.calls;
   };
 }
-called told rules answers now c a a' Untouched old new (Err OutOfMemory) rests said = λ tells.
+called told converters now c a a' Untouched old new (Err OutOfMemory) rests said = λ tells.
     let is = said.stopped tells refl in record {
       next = is.next;
-      leads = led rules answers a.app now c (application old.image a) is.next
+      leads = led converters a.app now c (application old.image a) is.next
           (sym (not_opened (application old.image a) rests)) is.leads;
       later = is.later;
       calls = is.calls;
     }
 
 -- a call whose root is in use promises as one whose root is opened first where it is to be opened
-pub promised : (told : Bool) (rules : List Rule) (answers : Answers) (now : ℕ) (c : Call) (a a' : Running)
+pub promised : (told : Bool) (converters : Converters) (now : ℕ) (c : Call) (a a' : Running)
     (Untouched : Type 0) (old new : Medium) (result : Result Reply Stop) → is_to_open (stage_in a.stage) ≡ false
-    → Promises told rules answers now c a a' Untouched old new result
-    → IsHandled told rules answers now c a a' Untouched old new result
-promised told rules answers now c a a' Untouched old new result rests said = record {
-  end = called told rules answers now c a a' Untouched old new result rests said;
+    → Promises told converters now c a a' Untouched old new result
+    → IsHandled told converters now c a a' Untouched old new result
+promised told converters now c a a' Untouched old new result rests said = record {
+  end = called told converters now c a a' Untouched old new result rests said;
   needs = λ tells bad. inr (said.stopped tells bad).needs;
   fed = said.fed;
   idle = λ tells none. said.idle tells (uses_none (application old.image a) c none);
@@ -203,7 +205,8 @@ whole_calls mend app next old mid new opens time later calls = record {
       (λ was. opens.any_moment quiet clean next (later_before (app_at old.image app) next
       (subst (λ (x : App). IsLater x next) opens.app later)) c was)
       (λ at. λ is_sound damaged image decays. mend app image damaged (app_at old.image app) next
-      ((subst (λ (x : App). StandsCase app x next c) opens.app (calls.any_moment opens.quiet (opens.clean clean) c at))
+      ((subst (λ (x : App). StandsCase app x next c) opens.app
+      (calls.any_moment opens.quiet (opens.clean clean) c at))
       is_sound damaged image decays))
       (cases_on opens.time time c s);
   outside = λ quiet c s. ⊎_elim
@@ -218,15 +221,15 @@ whole_calls mend app next old mid new opens time later calls = record {
 }
 
 -- the opening failed, and nothing more was written
-pub opened_alone : (told : Bool) (rules : List Rule) (answers : Answers) (now : ℕ) (c : Call) (a : Running)
+pub opened_alone : (told : Bool) (converters : Converters) (now : ℕ) (c : Call) (a : Running)
     (old mid : Medium) → stage_in a.stage ≡ to_open → Spares (IsNoSlot (root_place a.app)) old.image mid.image
     → mid.written ≤ old.written + root_cost (manifests_at old.image a.app)
     → (NeedsNothing old.image a.app → bytes_now mid ≡ bytes_now old)
-    → IsCallWithin rules answers a.app now (application old.image a) c (bytes_now old) (bytes_now mid)
-opened_alone told rules answers now c a old mid marked slots cost already = call_unbegun rules answers a.app now
+    → IsCallWithin converters (application_at a.app now (application old.image a)) c (bytes_now old) (bytes_now mid)
+opened_alone told converters now c a old mid marked slots cost already = call_unbegun converters a.app now
     (application old.image a) c (bytes_now old) (bytes_now mid) marked slots cost already
 
-module _ (mend : RootMendLaw) (told : Bool) (rules : List Rule) (answers : Answers) (now : ℕ) (c : Call) (a b : Running)
+module _ (mend : RootMendLaw) (told : Bool) (converters : Converters) (now : ℕ) (c : Call) (a b : Running)
     (old mid : Medium)
     (marked : stage_in a.stage ≡ to_open) (same : b.app ≡ a.app)
     (closed : IsTrue told → running_in a ≡ record { stage = to_open; sessions = none_open }) where
@@ -248,8 +251,10 @@ module _ (mend : RootMendLaw) (told : Bool) (rules : List Rule) (answers : Answe
   pub within_behind : running_in b ≡ record { stage = at_rest; sessions = none_open }
       → (IsTrue told → Spares (IsNoSlot (root_place a.app)) old.image mid.image)
       → (IsTrue told → OpensRoot a.app old mid) → (new : Medium)
-      → (IsTrue told → IsCallWithin rules answers b.app now (application mid.image b) c (bytes_now mid) (bytes_now new))
-      → IsTrue told → IsCallWithin rules answers a.app now (application old.image a) c (bytes_now old) (bytes_now new)
+      → (IsTrue told → IsCallWithin converters (application_at b.app now (application mid.image b)) c (bytes_now mid)
+      (bytes_now new))
+      → IsTrue told → IsCallWithin converters (application_at a.app now (application old.image a)) c (bytes_now old)
+      (bytes_now new)
   within_behind opened slots opens new within tells =
       let was : Application = as_app (app_at old.image a.app) (record { stage = to_open; sessions = none_open }) in
       let is : Application = as_app (reopened (app_at old.image a.app)) (record {
@@ -260,18 +265,20 @@ module _ (mend : RootMendLaw) (told : Bool) (rules : List Rule) (answers : Answe
       ap (λ (r : memory.Running). as_app (app_at mid.image b.app) r) opened
       ∙ ap (λ (x : App). as_app x (record { stage = at_rest; sessions = none_open }))
       (ap (app_at mid.image) same ∙ (opens tells).app) in
-      subst (λ (r : memory.Running). IsCallWithin rules answers a.app now (as_app (app_at old.image a.app) r) c
+      subst (λ (r : memory.Running). IsCallWithin converters
+      (application_at a.app now (as_app (app_at old.image a.app) r)) c
       (bytes_now old) (bytes_now new)) (sym (closed tells))
-      (call_behind rules answers a.app now was c (bytes_now old) (bytes_now mid) (bytes_now new) refl (slots tells)
+      (call_behind converters a.app now was c (bytes_now old) (bytes_now mid) (bytes_now new) refl (slots tells)
       (opens tells).written (opens tells).already (opens tells).manifests
-      (subst (λ (k : ℕ). IsCallWithin rules answers k now is c (bytes_now mid) (bytes_now new)) same
-      (subst (λ (r : Application). IsCallWithin rules answers b.app now r c (bytes_now mid) (bytes_now new)) there
+      (subst (λ (k : ℕ). IsCallWithin converters (application_at k now is) c (bytes_now mid) (bytes_now new)) same
+      (subst (λ (r : Application). IsCallWithin converters (application_at b.app now r) c (bytes_now mid)
+      (bytes_now new)) there
       (within tells))))
 
   -- ---- the opening failed
 
   unopened : (mid : Medium) → IsTrue told → ((next : App) → IsLater (app_at old.image a.app) next
-      → CallsTo a.app next old mid) → IsCallInProgress rules answers a.app now c (application old.image a) old mid
+      → CallsTo a.app next old mid) → IsCallInProgress converters a.app now c (application old.image a) old mid
   unopened mid tells way = record {
     next = app_at old.image a.app;
     leads = inl refl;
@@ -283,9 +290,9 @@ module _ (mend : RootMendLaw) (told : Bool) (rules : List Rule) (answers : Answe
   pub opening_failed : (stop : Stop) → IsRunning told mid.image b → running_in b ≡ running_in a
       → (IsTrue told → (next : App) → IsLater (app_at old.image a.app) next → CallsTo a.app next old mid)
       → (stop ≡ Device → Rose old.faults mid.faults)
-      → IfEnded (Err stop) (IsCommandAnswered told rules answers now c a b old mid)
-      (IsFailed told rules answers now c a b old mid)
-      (IsTrue told → IsCallInProgress rules answers a.app now c (application old.image a) old mid)
+      → IfEnded (Err stop) (IsCommandAnswered told converters now c a b old mid)
+      (IsFailed told converters now c a b old mid)
+      (IsTrue told → IsCallInProgress converters a.app now c (application old.image a) old mid)
   opening_failed Device memory kept way cause = record {
     app = same;
     memory = memory;
@@ -310,12 +317,15 @@ module _ (mend : RootMendLaw) (told : Bool) (rules : List Rule) (answers : Answe
         (ap (app_at mid.image) same ∙ (opens tells).app)
         ∙ sym (ap (λ (r : memory.Running). root_opened (as_app (app_at old.image a.app) r)) (closed tells))
 
-    step_on : IsTrue told → (outcome : Outcome) → AppStep rules answers b.app now (application mid.image b) c outcome
-        → AppStep rules answers a.app now (application old.image a) c outcome
-    step_on tells outcome step = subst (λ (k : ℕ). StepBeside rules answers k now
-        (root_opened (application old.image a)) c (beside_update
+    step_on : IsTrue told → (outcome : Outcome)
+        → AppStep converters (application_at b.app now (application mid.image b)) c outcome
+        → AppStep converters (application_at a.app now (application old.image a)) c outcome
+    step_on tells outcome step = subst
+        (λ (k : ℕ). StepBeside converters (application_at k now (root_opened (application old.image a))) c
+        (beside_update
         (update_in (root_opened (application old.image a)).stage) c) outcome) same
-        (subst (λ (r : Application). StepBeside rules answers b.app now r c (beside_update (update_in r.stage) c)
+        (subst (λ (r : Application). StepBeside converters (application_at b.app now r) c
+        (beside_update (update_in r.stage) c)
         outcome) (opened_is tells) step)
 
     later_on : (next : App) → IsTrue told → IsLater (app_at mid.image b.app) next
@@ -330,9 +340,9 @@ module _ (mend : RootMendLaw) (told : Bool) (rules : List Rule) (answers : Answe
         (subst (λ (k : ℕ). CallsTo k next mid new) same calls)
 
     -- what was there before is what is there with its root opened, but for the copies that lacked it
-    progress_by : IsTrue told → (next : App) → IsLedTo rules answers b.app now c (application mid.image b) next
+    progress_by : IsTrue told → (next : App) → IsLedTo converters b.app now c (application mid.image b) next
         → IsLater (app_at mid.image b.app) next → CallsTo b.app next mid new
-        → IsCallInProgress rules answers a.app now c (application old.image a) old new
+        → IsCallInProgress converters a.app now c (application old.image a) old new
     progress_by tells next (inl is) later calls = record {
       next = app_at old.image a.app;
       leads = inl refl;
@@ -348,8 +358,8 @@ module _ (mend : RootMendLaw) (told : Bool) (rules : List Rule) (answers : Answe
       calls = calls_on next tells later calls;
     }
 
-    progress_on : IsTrue told → IsCallInProgress rules answers b.app now c (application mid.image b) mid new
-        → IsCallInProgress rules answers a.app now c (application old.image a) old new
+    progress_on : IsTrue told → IsCallInProgress converters b.app now c (application mid.image b) mid new
+        → IsCallInProgress converters a.app now c (application old.image a) old new
     progress_on tells p = progress_by tells p.next p.leads p.later p.calls
 
     fails_on : IsTrue told → FailsAs b.app now (app_at new.image b.app) (application mid.image b) c
@@ -364,12 +374,12 @@ module _ (mend : RootMendLaw) (told : Bool) (rules : List Rule) (answers : Answe
         (found_named (root_opened (application mid.image b)) c))) same call))
 
     pub opened_first : (result : Result Reply Stop) → Elapses old mid
-        → IfEnded result (IsCommandAnswered told rules answers now c b a' mid new)
-        (IsFailed told rules answers now c b a' mid new)
-        (IsTrue told → IsCallInProgress rules answers b.app now c (application mid.image b) mid new)
-        → IfEnded result (IsCommandAnswered told rules answers now c a a' old new)
-        (IsFailed told rules answers now c a a' old new)
-        (IsTrue told → IsCallInProgress rules answers a.app now c (application old.image a) old new)
+        → IfEnded result (IsCommandAnswered told converters now c b a' mid new)
+        (IsFailed told converters now c b a' mid new)
+        (IsTrue told → IsCallInProgress converters b.app now c (application mid.image b) mid new)
+        → IfEnded result (IsCommandAnswered told converters now c a a' old new)
+        (IsFailed told converters now c a a' old new)
+        (IsTrue told → IsCallInProgress converters a.app now c (application old.image a) old new)
     opened_first (Ok reply) first h = record {
       app = h.app ∙ same;
       memory = h.memory;

@@ -1,5 +1,5 @@
 -- A doubt is ended by a sync, and then the command goes on; where the sync fails nothing changes.
-use Rattle.std.specs.Prelude.{◌≡◌, ◌⊎◌, ◌<◌, ◌≤◌, ◌+◌, ◌*◌, ◌&&◌, ℕ, List, length, Bool, true, false, IsTrue, Option}
+use Rattle.std.specs.Prelude.{◌≡◌, ◌⊎◌, ◌<◌, ◌≤◌, ◌+◌, ◌*◌, ◌&&◌, ℕ, length, Bool, true, false, IsTrue, Option}
 use Rattle.std.specs.Prelude.{Some, None, Result, Ok, Err}
 use Rattle.std.proofs.Common.{refl, sym, ap, ap₂, ◌∙◌, subst, inl, inr, ⊎_elim, le_refl, le_trans, arith, true≢false}
 use Rattle.std.proofs.lemmas.List.{length-map}
@@ -12,10 +12,10 @@ use Rattle.disk_model.specs.lemmas.Frames.{settled_on}
 use Rattle.element_maps.specs.Sessions.{view_once_synced}
 use Rattle.element_state.specs.Written.{IsWithin, map_cost}
 use Rattle.element_store.specs.Committing.{index_length}
+use Rattle.run_model.specs.Converters.{Converters}
 use Rattle.run_model.specs.Found.{shape_in}
 use Rattle.run_model.specs.Sessions.{seen_of, synced_in_session}
 use Rattle.per_base.specs.Causes.{Rose}
-use Rattle.migrate_fns.specs.Rules.{Rule, Answers}
 use Rattle.command_text.specs.declared.calls.Call.{Call}
 use Rattle.command_text.specs.declared.calls.Event.TheVariants as event
 use Rattle.command_text.specs.declared.replies.Reply.{Reply}
@@ -26,7 +26,7 @@ use Rattle.run_model.specs.KeepLaws.{after_sync_keeps, failed_sync_keeps}
 use Rattle.run_model.specs.Moments.{IsMoment, IsReady, StepKeeps, StopKeeps}
 use Rattle.run_model.specs.Runtimes.{Memory, IsDoubt, IsElsewhere, IsUnwritten, StaysAside, Stepped, StepsOn, Stopped}
 use Rattle.run_model.specs.Runtimes.{IsBesideNamed, WrittenBy, WritesWithin, calls_none, only_looks, world_of}
-use Rattle.run_model.specs.Runtimes.{writes_none}
+use Rattle.run_model.specs.Runtimes.{writes_none, runtime_at}
 use Rattle.run_model.specs.Turns.{DiskBytes, IsBlamed, bytes_now}
 use Rattle.run_model.specs.WriteLaws.{command_unwritten}
 use Rattle.run_model.specs.Writes.{IsCommandWithin, OnlyOpens}
@@ -63,7 +63,8 @@ within : (copies contents index before after : ℕ) → after ≡ before → IsW
 within copies contents index before after same = subst (λ (k : ℕ). k ≤ before + copies * (contents + index + 88))
     (sym same) (omega arith)
 
-more : (copies contents index before before' after : ℕ) → before ≡ before' → IsWithin copies contents index before after
+more : (copies contents index before before' after : ℕ) → before ≡ before'
+    → IsWithin copies contents index before after
     → IsWithin copies contents index before' after
 more copies contents index before before' after same bound =
     subst (λ (k : ℕ). after ≤ k + copies * (contents + index + 88)) same bound
@@ -77,7 +78,7 @@ blamed_behind reply old mid new earlier same blamed = record {
   passes = λ other. blamed.passes other ∙ same;
 }
 
-module _ (rules : List Rule) (answers : Answers) (told : Bool) (n : ℕ) (c : Call) (m : Memory) (d : Doubt)
+module _ (converters : Converters) (told : Bool) (n : ℕ) (c : Call) (m : Memory) (d : Doubt)
     (old mid new : Medium)
     (calls : calls_device (app_of (world_of old.image m (Some d)) n) c ≡ true) (nothing : WritesNothing old mid)
     (time : Elapses old mid) where
@@ -133,15 +134,15 @@ module _ (rules : List Rule) (answers : Answers) (told : Bool) (n : ℕ) (c : Ca
               old.written new.written nothing.written (within.at_most v others opens);
         }
 
-    within_on : IsCommandWithin rules answers (world_of mid.image (sure m) None) (event.App n c) (bytes_now mid)
+    within_on : IsCommandWithin converters (world_of mid.image (sure m) None) (event.App n c) (bytes_now mid)
         (bytes_now new)
-        → IsCommandWithin rules answers before (event.App n c) (bytes_now old) (bytes_now new)
+        → IsCommandWithin converters before (event.App n c) (bytes_now old) (bytes_now new)
     unfolding before
     within_on is =
         let same : bytes_now mid ≡ bytes_now old = same_bytes old mid nothing.image nothing.written in
-        subst (λ (b : DiskBytes). IsCommandWithin rules answers (without_doubt before) (event.App n c) b (bytes_now new))
+        subst (λ (b : DiskBytes). IsCommandWithin converters (without_doubt before) (event.App n c) b (bytes_now new))
         same
-        (subst (λ (w : World). IsCommandWithin rules answers w (event.App n c) (bytes_now mid) (bytes_now new)) synced_is
+        (subst (λ (w : World). IsCommandWithin converters w (event.App n c) (bytes_now mid) (bytes_now new)) synced_is
         is)
 
     opened_on : OnlyOpens (world_of mid.image (sure m) None) (event.App n c) (bytes_now mid) (bytes_now new)
@@ -155,12 +156,14 @@ module _ (rules : List Rule) (answers : Answers) (told : Bool) (n : ℕ) (c : Ca
     place_on : Spares (IsBesideNamed (world_of mid.image (sure m) None) (event.App n c)) mid.image new.image
         → Spares (IsBesideNamed before (event.App n c)) old.image new.image
     unfolding before
-    place_on place file beside = place file (subst (λ (w : World). IsBesideNamed w (event.App n c) file) (sym synced_is)
+    place_on place file beside = place file
+        (subst (λ (w : World). IsBesideNamed w (event.App n c) file) (sym synced_is)
         beside) ∙ ap (λ (i : Image). i file) nothing.image
 
     -- where it leads
-    step_on : (reply : Reply) (w' : World) → StepsOn rules answers (without_doubt before) (event.App n c) reply w' mid
-        new → StepsOn rules answers before (event.App n c) reply w' old new
+    step_on : (reply : Reply) (w' : World)
+        → StepsOn converters (without_doubt before) (event.App n c) reply w' (OnlyReads mid new)
+        → StepsOn converters before (event.App n c) reply w' (OnlyReads old new)
     unfolding before
     step_on reply w' (inl step) = inl (
       step.0,
@@ -175,8 +178,9 @@ module _ (rules : List Rule) (answers : Answers) (told : Bool) (n : ℕ) (c : Ca
         (sym fails.0.0 ∙ and_none (calls_device (app_of before n) c)))
     step_on reply w' (inr (inr fails)) = inr (inr fails)
 
-    pub stepped : (reply : Reply) (m' : Memory) → Stepped rules answers (event.App n c) reply (sure m) m' None mid new
-        → Stepped rules answers (event.App n c) reply m m' (Some d) old new
+    pub stepped : (reply : Reply) (m' : Memory)
+        → Stepped converters (event.App n c) reply None (runtime_at (sure m) mid) (runtime_at m' new)
+        → Stepped converters (event.App n c) reply (Some d) (runtime_at m old) (runtime_at m' new)
     unfolding before
     stepped reply m' s =
         let w' : World = world_of new.image m' s.doubt' in
@@ -184,7 +188,8 @@ module _ (rules : List Rule) (answers : Answers) (told : Bool) (n : ℕ) (c : Ca
           eight = s.eight;
           doubt' = s.doubt';
           is_doubt = s.is_doubt;
-          step = step_on reply w' (subst (λ (w : World). StepsOn rules answers w (event.App n c) reply w' mid new)
+          step = step_on reply w'
+              (subst (λ (w : World). StepsOn converters w (event.App n c) reply w' (OnlyReads mid new))
               synced_is s.step);
           world = s.world;
           keeps = λ k lt. after_sync_keeps k before w' d told old mid new refl lawful time nothing quiet later
@@ -201,12 +206,12 @@ module _ (rules : List Rule) (answers : Answers) (told : Bool) (n : ℕ) (c : Ca
           blamed = blamed_behind reply old mid new time.faults passes s.blamed;
         }
 
-    pub stopped : Stopped rules answers (event.App n c) (sure m) None mid new
-        → Stopped rules answers (event.App n c) m (Some d) old new
+    pub stopped : Stopped converters (event.App n c) None (runtime_at (sure m) mid) new
+        → Stopped converters (event.App n c) (Some d) (runtime_at m old) new
     unfolding before
     stopped s = record {
       after = s.after;
-      leads = subst (λ (w : World). Leads rules answers w (event.App n c) s.after) synced_is s.leads;
+      leads = subst (λ (w : World). Leads converters w (event.App n c) s.after) synced_is s.leads;
       keeps = λ k lt ready x at.
           let kept : StopKeeps k (without_doubt before) s.after mid new =
           subst (λ (w : World). StopKeeps k w s.after mid new) synced_is (s.keeps k lt) in
@@ -234,7 +239,8 @@ module _ (rules : List Rule) (answers : Answers) (told : Bool) (n : ℕ) (c : Ca
 
   -- the sync failed
   pub unsynced : OnlyReads old mid → Rose old.faults mid.faults → m.in_doubt ≡ true → length m.apps ≡ 8
-      → IsWorld (world_of old.image m (Some d)) → Stepped rules answers (event.App n c) failure m m (Some d) old mid
+      → IsWorld (world_of old.image m (Some d))
+      → Stepped converters (event.App n c) failure (Some d) (runtime_at m old) (runtime_at m mid)
   unfolding before
   unsynced reads rose doubt eight world =
       let same : world_of mid.image m (Some d) ≡ before = ap (λ (i : Image). world_of i m (Some d)) reads.image in
@@ -263,7 +269,7 @@ module _ (rules : List Rule) (answers : Answers) (told : Bool) (n : ℕ) (c : Ca
               (seen_of s)).entries) old.written
               mid.written reads.written;
         };
-        within = command_unwritten rules answers before (event.App n c) (bytes_now old) (bytes_now mid) reads.image
+        within = command_unwritten converters before (event.App n c) (bytes_now old) (bytes_now mid) reads.image
             reads.written;
         refused = λ refused. absurd (true≢false (sym refused));
         blamed = record { later = time.faults; cause = λ four. rose; passes = λ other. absurd (other refl) };
@@ -280,7 +286,7 @@ calls_in told image r n c doubt tells below are calls = let it =
     subst (λ (a : Application). calls_device a c ≡ true)
     (sym (app_is image r.now r.apps.items doubt n it.0 it.1 (are.each n it.0 it.1).0)) (calls tells it.0 it.1)
 
-module _ (rules : List Rule) (answers : Answers) (told : Bool) (n : ℕ) (c : Call) (r : Runtime) (old mid : Medium)
+module _ (converters : Converters) (told : Bool) (n : ℕ) (c : Call) (r : Runtime) (old mid : Medium)
     (below : n < 8) (used : IsRuntime told old r)
     (calls : CallsDevice told old.image r n c true) (in_doubt : r.in_doubt ≡ true) (nothing : WritesNothing old mid)
     (time : Elapses old mid) where
@@ -292,29 +298,30 @@ module _ (rules : List Rule) (answers : Answers) (told : Bool) (n : ℕ) (c : Ca
       (passes : mid.faults ≡ old.faults) where
     steps_on : (reply : Reply) → Elapses mid new
         → (IsTrue told → (doubt : Option Doubt) → IsDoubt (memory_of (record r { in_doubt = false })) doubt
-        → Stepped rules answers (event.App n c) reply (memory_of (record r { in_doubt = false })) (memory_of r') doubt
-        mid new)
+        → Stepped converters (event.App n c) reply doubt (runtime_at (memory_of (record r { in_doubt = false })) mid)
+        (runtime_at (memory_of r') new))
         → IsTrue told → (doubt : Option Doubt) → IsDoubt (memory_of r) doubt
-        → Stepped rules answers (event.App n c) reply (memory_of r) (memory_of r') doubt old new
+        → Stepped converters (event.App n c) reply doubt (runtime_at (memory_of r) old)
+        (runtime_at (memory_of r') new)
     steps_on reply later steps tells None is = absurd (true≢false (sym in_doubt ∙ sym is))
-    steps_on reply later steps tells (Some d) is = stepped rules answers told n c (memory_of r) d old mid new
+    steps_on reply later steps tells (Some d) is = stepped converters told n c (memory_of r) d old mid new
         (calls_in told old.image r n c (Some d) tells below used.apps calls)
         nothing time lawful quiet passes later reply (memory_of r') (steps tells None refl)
 
     stops_on : Elapses mid new
         → (IsTrue told → (doubt : Option Doubt) → IsDoubt (memory_of (record r { in_doubt = false })) doubt
-        → Stopped rules answers (event.App n c) (memory_of (record r { in_doubt = false })) doubt mid new)
+        → Stopped converters (event.App n c) doubt (runtime_at (memory_of (record r { in_doubt = false })) mid) new)
         → IsTrue told → (doubt : Option Doubt) → IsDoubt (memory_of r) doubt
-        → Stopped rules answers (event.App n c) (memory_of r) doubt old new
+        → Stopped converters (event.App n c) doubt (runtime_at (memory_of r) old) new
     stops_on later stops tells None is = absurd (true≢false (sym in_doubt ∙ sym is))
-    stops_on later stops tells (Some d) is = stopped rules answers told n c (memory_of r) d old mid new
+    stops_on later stops tells (Some d) is = stopped converters told n c (memory_of r) d old mid new
         (calls_in told old.image r n c (Some d) tells below used.apps calls)
         nothing time lawful quiet passes later (stops tells None refl)
 
     -- after the sync the command went on without a doubt
     pub resumed : (Behind Whole : Type 0) (result : Result Reply Stop)
-        → IsCommand told rules answers (event.App n c) (record r { in_doubt = false }) r' Behind mid new result
-        → IsCommand told rules answers (event.App n c) r r' Whole old new result
+        → IsCommand told converters (event.App n c) (record r { in_doubt = false }) r' Behind mid new result
+        → IsCommand told converters (event.App n c) r r' Whole old new result
     resumed behind whole (Ok reply) h = record {
       end = record {
         memory = h.end.memory;
@@ -340,15 +347,15 @@ module _ (rules : List Rule) (answers : Answers) (told : Bool) (n : ℕ) (c : Ca
   -- the sync failed, and nothing changed
   fails_on : MakesOne → OnlyReads old mid → Rose old.faults mid.faults → IsTrue told → (doubt : Option Doubt)
       → IsDoubt (memory_of r) doubt
-      → Stepped rules answers (event.App n c) failure (memory_of r) (memory_of r) doubt old mid
+      → Stepped converters (event.App n c) failure doubt (runtime_at (memory_of r) old) (runtime_at (memory_of r) mid)
   fails_on makes reads rose tells None is = absurd (true≢false (sym in_doubt ∙ sym is))
-  fails_on makes reads rose tells (Some d) is = unsynced rules answers told n c (memory_of r) d old mid mid
+  fails_on makes reads rose tells (Some d) is = unsynced converters told n c (memory_of r) d old mid mid
       (calls_in told old.image r n c (Some d) tells below used.apps calls) nothing time
       reads rose in_doubt (length-map r.apps.items running_in ∙ used.apps.eight)
       (is_world makes told old.image r.now r.apps.items (Some d) tells used.apps)
 
   pub still_doubtful : (Untouched : Type 0) → MakesOne → OnlyReads old mid → Rose old.faults mid.faults
-      → IsCommand told rules answers (event.App n c) r r Untouched old mid (Ok failure)
+      → IsCommand told converters (event.App n c) r r Untouched old mid (Ok failure)
   still_doubtful untouched makes reads rose = record {
     end = record {
       memory = record {

@@ -1,7 +1,7 @@
 //! One application's call, after the opening of its root where that is to be opened.
 
 ghost use Rattle.std.specs.Prelude.{◌≡◌};
-ghost use Rattle.migrate_fns.specs.Stored.{answers_of, rules_of};
+ghost use Rattle.run_model.specs.Converters.{converters_of};
 ghost use Rattle.run_model.specs.Worlds.{to_open};
 ghost use Rattle.per_runtime.specs.application.Running.{IsRunning, stage_in};
 ghost use Rattle.per_runtime.specs.Handled.{IsHandled};
@@ -24,7 +24,7 @@ pub(crate) fn answer<D: Disk>(
     asked: &Asked,
 ) -> Result<Reply, Stop>
     requires memory { IsRunning D.told (D.medium disk.old).image running.old }
-    ensures { IsHandled D.told (rules_of migrations.now) (answers_of migrations.now) now (asked_call asked.now)
+    ensures { IsHandled D.told (converters_of migrations.now) now (asked_call asked.now)
         running.old
         running.new
         (disk.new ≡ disk.old) (D.medium disk.old) (D.medium disk.new) result }
@@ -48,7 +48,7 @@ fn open_and_answer<D: Disk>(
 ) -> Result<Reply, Stop>
     requires memory { IsRunning D.told (D.medium disk.old).image running.old }
     requires marked { stage_in running.old.stage ≡ to_open }
-    ensures { IsHandled D.told (rules_of migrations.now) (answers_of migrations.now) now (asked_call asked.now)
+    ensures { IsHandled D.told (converters_of migrations.now) now (asked_call asked.now)
         running.old
         running.new
         (disk.new ≡ disk.old) (D.medium disk.old) (D.medium disk.new) result }

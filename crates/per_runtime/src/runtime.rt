@@ -2,10 +2,10 @@
 
 ghost use Rattle.std.specs.Prelude.{◌≡◌, ◌<◌, IfOk, IsErrOf, IsTrue, None, OnErr, Option, true, false};
 ghost use Rattle.disk_model.specs.Medium.{Elapses};
-ghost use Rattle.migrate_fns.specs.Stored.{answers_of, rules_of};
 ghost use Rattle.command_text.specs.Grammar.{IsEvent};
 ghost use Rattle.command_text.specs.Replies.{HasText};
-ghost use Rattle.run_model.specs.Runtimes.{IsDoubt, Stepped, Stopped, calls_none, world_of};
+ghost use Rattle.run_model.specs.Converters.{converters_of};
+ghost use Rattle.run_model.specs.Runtimes.{IsDoubt, Stepped, Stopped, calls_none, runtime_at, world_of};
 ghost use Rattle.run_model.specs.Turns.{IsBlamed};
 ghost use Rattle.run_model.specs.Worlds.{Doubt};
 ghost use Rattle.per_runtime.specs.Commands.{CallsDevice, IsCommand};
@@ -61,12 +61,12 @@ impl Runtime {
         // (`Stopped`).
         ensures stepped { IsTrue D.told → IfOk result (λ reply. (doubt : Option Doubt)
             → IsDoubt (memory_of self.old) doubt
-            → Stepped (rules_of migrations.now) (answers_of migrations.now) event.now reply (memory_of self.old)
-            (memory_of self.new) doubt
-            (D.medium disk.old) (D.medium disk.new)) }
+            → Stepped (converters_of migrations.now) event.now reply doubt
+            (runtime_at (memory_of self.old) (D.medium disk.old))
+            (runtime_at (memory_of self.new) (D.medium disk.new))) }
         ensures stopped { IsTrue D.told → OnErr result ((doubt : Option Doubt) → IsDoubt (memory_of self.old) doubt
-            → Stopped (rules_of migrations.now) (answers_of migrations.now) event.now (memory_of self.old) doubt
-            (D.medium disk.old) (D.medium disk.new)) }
+            → Stopped (converters_of migrations.now) event.now doubt
+            (runtime_at (memory_of self.old) (D.medium disk.old)) (D.medium disk.new)) }
 
         // Memory runs out only for a command that may need it: any other is answered, refused or not, also where no
         // memory is left.
@@ -95,7 +95,7 @@ impl Runtime {
     ) -> Result<Reply, Stop>
         requires event { IsEvent event.now }
         requires memory { IsRuntime D.told (D.medium disk.old) self.old }
-        ensures { IsCommand D.told (rules_of migrations.now) (answers_of migrations.now) event.now self.old self.new
+        ensures { IsCommand D.told (converters_of migrations.now) event.now self.old self.new
             (disk.new ≡ disk.old) (D.medium disk.old) (D.medium disk.new) result }
     {
         applications_stand();
@@ -119,7 +119,7 @@ impl Runtime {
     ) -> Result<Reply, Stop>
         requires app { app < 8 }
         requires memory { IsRuntime D.told (D.medium disk.old) self.old }
-        ensures { IsCommand D.told (rules_of migrations.now) (answers_of migrations.now)
+        ensures { IsCommand D.told (converters_of migrations.now)
             (Event.App app (asked_call asked.now)) self.old self.new
             (disk.new ≡ disk.old) (D.medium disk.old) (D.medium disk.new) result }
     {
@@ -144,7 +144,7 @@ impl Runtime {
         requires memory { IsRuntime D.told (D.medium disk.old) self.old }
         requires device { CallsDevice D.told (D.medium disk.old).image self.old app (asked_call asked.now) true }
         requires doubt { self.old.in_doubt ≡ true }
-        ensures { IsCommand D.told (rules_of migrations.now) (answers_of migrations.now)
+        ensures { IsCommand D.told (converters_of migrations.now)
             (Event.App app (asked_call asked.now)) self.old self.new
             (disk.new ≡ disk.old) (D.medium disk.old) (D.medium disk.new) result }
     {
@@ -168,7 +168,7 @@ impl Runtime {
         requires memory { IsRuntime D.told (D.medium disk.old) self.old }
         requires sure { self.old.in_doubt ≡ true → CallsDevice D.told (D.medium disk.old).image self.old app
             (asked_call asked.now) false }
-        ensures { IsCommand D.told (rules_of migrations.now) (answers_of migrations.now)
+        ensures { IsCommand D.told (converters_of migrations.now)
             (Event.App app (asked_call asked.now)) self.old self.new
             (disk.new ≡ disk.old) (D.medium disk.old) (D.medium disk.new) result }
     {

@@ -17,7 +17,6 @@ use Rattle.element_maps.specs.Sessions.{same_map, view_once_synced}
 use Rattle.file_core.specs.Places.{writes}
 use Rattle.file_handles.specs.Sessions.{lowest}
 use Rattle.file_handles.specs.Handling.{at_handle}
-use Rattle.migrate_fns.specs.Rules.{Rule, Answers}
 use Rattle.command_text.specs.declared.calls.Call.{Call}
 use Rattle.command_text.specs.declared.calls.Call.TheVariants as call
 use Rattle.command_text.specs.declared.replies.Answer.{Answer}
@@ -29,10 +28,11 @@ use Rattle.deploy_laws.specs.Apps.{Says, nothing, absent, installed, App}
 use Rattle.deploy_rows.specs.Rows.{◌>>=◌, InProgress, BeginsUpdate, installing, finishing, rolling_back, wiping}
 use Rattle.deploy_rows.specs.Rows.{updated_app, one_more}
 use Rattle.deploy_rows.specs.Recovering.{recovering, resetting}
+use Rattle.run_model.specs.Converters.{Converters}
 use Rattle.run_model.specs.Found.{FoundStorage, storage_in, shape_in, with_storage_state}
 use Rattle.run_model.specs.Sessions.{Session, keys, files, in_session, session_of, synced_in_session, seen_of}
 use Rattle.run_model.specs.Sessions.{made_durable}
-use Rattle.run_model.specs.Worlds.{Application, Sessions, at_rest, updating, update_in}
+use Rattle.run_model.specs.Worlds.{Application, Sessions, at_rest, updating, update_in, ApplicationAt}
 
 -- a reply, and what an application is afterwards
 abbrev pub Outcome : Type 0
@@ -73,7 +73,8 @@ without_session r number = record r { sessions = slice_set r.sessions number Non
 
 -- the rest, but busy where the storage is open
 abbrev pub unless_open : {A : Type 0} → Application → FoundStorage → Result A PerError → Result A PerError
-unless_open r f rest = refuse (is_some (session_at r f.number)) (error.ResourceBusy (holder.Storage f.config.name)) rest
+unless_open r f rest = refuse (is_some (session_at r f.number)) (error.ResourceBusy (holder.Storage f.config.name))
+    rest
 
 -- the session of a storage, or the refusal that it is not open
 abbrev pub opened_session : Application → FoundStorage → Result Session PerError
@@ -317,20 +318,23 @@ abbrev pub with_update_begun : Application → InProgress → Result Outcome Per
 with_update_begun r p = Ok (answered answer.Done (record r { stage = updating p }))
 
 -- an update to the manifest `text` begins by one plan, from which the call goes on by `after`, or is refused
-abbrev pub BeginsBy : List Rule → Answers → (now : ℕ) → Application → (text : List ℕ)
+abbrev pub BeginsBy : Converters → (now : ℕ) → Application → (text : List ℕ)
     → (InProgress → Result Outcome PerError) → Outcome → Type 0
-BeginsBy rules answers now r text after outcome = (row : Result InProgress PerError)
-    × BeginsUpdate rules answers now (least_open r) text r.disk row × (outcome ≡ concluded r (row >>= after))
+BeginsBy converters now r text after outcome = (row : Result InProgress PerError)
+    × BeginsUpdate converters.rules converters.answers now (least_open r) text r.disk row
+    × (outcome ≡ concluded r (row >>= after))
 
--- a call on application r at the moment now may have this outcome; updates may have several, by what converters answer
-abbrev pub CallStep : List Rule → Answers → (app now : ℕ) → Application → Call → Outcome → Type 0
-CallStep rules answers app now r (call.Update text) outcome = BeginsBy rules answers now r text (with_update r) outcome
-CallStep rules answers app now r (call.UpdateBegin text) outcome = BeginsBy rules answers now r text
-    (with_update_begun r) outcome
-CallStep rules answers app now r other outcome = outcome ≡ concluded r (app_step app r now other)
+-- a call on an application may have this outcome; updates may have several, by what converters answer
+abbrev pub CallStep : Converters → ApplicationAt → Call → Outcome → Type 0
+CallStep converters at (call.Update text) outcome =
+    BeginsBy converters at.now at.application text (with_update at.application) outcome
+CallStep converters at (call.UpdateBegin text) outcome =
+    BeginsBy converters at.now at.application text (with_update_begun at.application) outcome
+CallStep converters at other outcome = outcome
+    ≡ concluded at.application (app_step at.app at.application at.now other)
 
--- a call on application r at the moment now may have this outcome: the refusal that an update in progress gives, if it
--- gives one, and else that of the call by itself (`CallStep`)
-abbrev pub StepBeside : List Rule → Answers → (app now : ℕ) → Application → Call → Option PerError → Outcome → Type 0
-StepBeside rules answers app now r c (Some e) outcome = outcome ≡ answered (answer.Error e) r
-StepBeside rules answers app now r c None outcome = CallStep rules answers app now r c outcome
+-- a call on an application may have this outcome: the refusal that an update in progress gives, if it gives one, and
+-- else that of the call by itself (`CallStep`)
+abbrev pub StepBeside : Converters → ApplicationAt → Call → Option PerError → Outcome → Type 0
+StepBeside converters at c (Some e) outcome = outcome ≡ answered (answer.Error e) at.application
+StepBeside converters at c None outcome = CallStep converters at c outcome

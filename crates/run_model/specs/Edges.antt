@@ -1,16 +1,10 @@
--- The edges of a run, which are the source that it reads, the sink that it writes to and the disk; and the converters
--- that it is given.
+-- The edges of a run, which are the source that it reads, the sink that it writes to and the disk.
 use Rattle.std.specs.Prelude.{ℕ, List, Option}
 use Rattle.per_base.specs.declared.streams.Sink.{Ghosts as SinkOf}
 use Rattle.per_base.specs.declared.streams.Source.{Ghosts as SourceOf}
 use Rattle.disk_model.specs.declared.disk.Disk.{Ghosts as DiskOf}
 use Rattle.disk_model.specs.Medium.{Medium}
-use Rattle.migrate_fns.specs.Rules.{Rule, Answers}
-use Rattle.migrate_fns.specs.Stored.{answers_of, rules_of}
-use Rattle.migrate_fns.specs.declared.migrations.Migrations.{Migrations}
 use Rattle.run_model.specs.Endings.{FailureCounts}
-
--- ---- at one moment
 
 -- what stands at the edges at one moment; D is what is said of the disk
 pub record Edges {ℓ} (D : Type ℓ) : Type ℓ where
@@ -45,14 +39,3 @@ modelled of_disk at = record {
 -- how many calls of the disk, of the source and of the sink have failed
 abbrev pub failures_at : Edges Medium → FailureCounts
 failures_at at = record { disk = at.disk.faults; source = at.source_failures; sink = at.sink_failures }
-
--- ---- converters
-
--- converters of values between types: between which types each is, and what each may answer
-pub record Converters : Type 1 where
-  pub rules : List Rule
-  pub answers : Answers
-
--- the stored converters
-abbrev pub converters_of : {X : Type 0} {F : X → Type 0} {g : _} → Migrations X F g → Converters
-converters_of ms = record { rules = rules_of ms; answers = answers_of ms }

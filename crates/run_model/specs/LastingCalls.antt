@@ -23,7 +23,6 @@ use Rattle.element_state.specs.States.{State, Opens, Corrupt, mended_view, mende
 use Rattle.element_state.specs.Views.{element_of, judged_entry}
 use Rattle.key_maps.specs.TwoMaps.{TwoMaps}
 use Rattle.kvs_core.specs.Calls as kvs
-use Rattle.migrate_fns.specs.Rules.{Rule, Answers}
 use Rattle.command_text.specs.declared.calls.Call.{Call}
 use Rattle.command_text.specs.declared.calls.Call.TheVariants as call
 use Rattle.command_text.specs.declared.calls.Event.TheVariants as event
@@ -32,6 +31,7 @@ use Rattle.command_text.specs.declared.replies.Answer.TheVariants as answer
 use Rattle.command_text.specs.declared.replies.Reply.{Reply}
 use Rattle.deploy_laws.specs.Apps.{Says, nothing, absent, installed, App, app_at}
 use Rattle.deploy_rows.specs.Rows.{◌>>=◌}
+use Rattle.run_model.specs.Converters.{Converters}
 use Rattle.run_model.specs.Found.{FoundStorage, of_kind, found_with, found_at, found_in, storage_in, shape_in}
 use Rattle.run_model.specs.Found.{with_storage_state}
 use Rattle.run_model.specs.Sessions.{Session, keys, files, shows, changes, seen_in, session_of, on_keys}
@@ -288,12 +288,12 @@ local_any r now (Some on) c is = local_row r now on c is
 
 -- ---- the clock, a sync that fails, and failures that end all sessions
 
-pub now_lasts : (rules : List Rule) (answers : Answers) (w w' : World) (t : ℕ) (reply : Reply) → IsWorld w
-    → StepsTo rules answers w (event.Now t) reply w' → IsWorld w'
-now_lasts rules answers w w' t reply world (inl step) =
+pub now_lasts : (converters : Converters) (w w' : World) (t : ℕ) (reply : Reply) → IsWorld w
+    → StepsTo converters w (event.Now t) reply w' → IsWorld w'
+now_lasts converters w w' t reply world (inl step) =
     subst (λ (u : World). IsWorld u) (sym step.1) (record { eight = world.eight; each = world.each })
-now_lasts rules answers w w' t reply world (inr (inl fails)) = absurd fails
-now_lasts rules answers w w' t reply world (inr (inr fails)) = absurd fails
+now_lasts converters w w' t reply world (inr (inl fails)) = absurd fails
+now_lasts converters w w' t reply world (inr (inr fails)) = absurd fails
 
 pub failed_sync_lasts : (w w' : World) (app : ℕ) (c : Call) (reply : Reply) → IsWorld w
     → SyncFails w (event.App app c) reply w' → IsWorld w'
@@ -303,10 +303,10 @@ pub marked_so : (a : App) (r : Application) → IsApplication (after_failure a r
 marked_so a r = record { room = refl; sessions = none_on 16 (active_storages a.says) a.states; stage = refl }
 
 -- a command that names no storage
-pub failure_lasts : (rules : List Rule) (answers : Answers) (w w' : World) (app : ℕ) (c : Call) (reply : Reply)
+pub failure_lasts : (converters : Converters) (w w' : World) (app : ℕ) (c : Call) (reply : Reply)
     → device_storage c ≡ None → IsWorld w
-    → FailsElsewhere rules answers w (event.App app c) reply w' → IsWorld w'
-failure_lasts rules answers w w' app c reply none world fails = with_so w w' app fails.0 _ world (by fails.3) fails.6
+    → FailsElsewhere converters w (event.App app c) reply w' → IsWorld w'
+failure_lasts converters w w' app c reply none world fails = with_so w w' app fails.0 _ world (by fails.3) fails.6
   where
     by : FailsAs app w.now (app_at fails.2.left app) (app_of w app) c fails.0 → IsApplication fails.0
     by (inl root) = subst (λ (r : Application). IsApplication r) (sym root.1)

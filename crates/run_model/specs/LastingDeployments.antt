@@ -10,7 +10,6 @@ use Rattle.per_base.specs.declared.errors.PerError.{PerError}
 use Rattle.per_base.specs.declared.errors.PerError.TheVariants as error
 use Rattle.deployment_model.specs.Data.{StorageData, DeploymentData}
 use Rattle.element_state.specs.States.{State, greatest_generation}
-use Rattle.migrate_fns.specs.Rules.{Rule, Answers}
 use Rattle.update_plan.specs.declared.contents.StorageContents.{StorageContents}
 use Rattle.update_plan.specs.Plans.{PlansAll, Continues, with_first, stored_for}
 use Rattle.command_text.specs.declared.replies.Answer.TheVariants as answer
@@ -20,6 +19,7 @@ use Rattle.deploy_rows.specs.Rows.{◌>>=◌, not_worn, not_busy, deployment_of,
 use Rattle.deploy_rows.specs.Rows.{rolling_back, wiping, empty_app, storage_count, contents_stored, Offer, offered}
 use Rattle.deploy_rows.specs.Rows.{newer_version}
 use Rattle.deploy_rows.specs.Rows.{offer_over, InProgress, begun as begun_by, BeginsWith, updated_app}
+use Rattle.run_model.specs.Converters.{Converters}
 use Rattle.run_model.specs.Sessions.{Session}
 use Rattle.run_model.specs.Worlds.{Application, Stage, to_open, at_rest, updating, update_in, Sessions}
 use Rattle.run_model.specs.Lasting.{AreSessionsOn, IsStageOn, IsApplication, none_on}
@@ -263,13 +263,14 @@ refused_so : (f : InProgress → Result Outcome PerError) (row : Result InProgre
 refused_so f row e is = subst (λ (x : Result InProgress PerError). IfOk (x >>= f) Lasts) (sym is) tt
 
 -- as many contents as storages
-plan_length : (rules : List Rule) (answers : Answers) (now : ℕ) (stored : StorageData → StorageContents)
+plan_length : (converters : Converters) (now : ℕ) (stored : StorageData → StorageContents)
     (ss : List StorageData) (plan : Result (List (List Fresh)) PerError)
-    → PlansAll rules answers now stored ss plan → IfOk plan (λ contents. length contents ≡ length ss)
-plan_length rules answers now stored [] plan is = subst
+    → PlansAll converters.rules converters.answers now stored ss plan
+    → IfOk plan (λ contents. length contents ≡ length ss)
+plan_length converters now stored [] plan is = subst
     (λ (x : Result (List (List Fresh)) PerError). IfOk x (λ contents. length contents ≡ 0)) (sym is) refl
-plan_length rules answers now stored (s ∷ ss) plan is =
-    by (λ rest. plan_length rules answers now stored ss rest) is.0 is.2
+plan_length converters now stored (s ∷ ss) plan is =
+    by (λ rest. plan_length converters now stored ss rest) is.0 is.2
   where
     with_rest : (new : List Fresh) (rest : Result (List (List Fresh)) PerError)
         → IfOk rest (λ contents. length contents ≡ length ss)
@@ -277,9 +278,10 @@ plan_length rules answers now stored (s ∷ ss) plan is =
     with_rest new (Ok contents) same = ap suc same
     with_rest new (Err e) same = tt
 
-    by : ((rest : Result (List (List Fresh)) PerError) → PlansAll rules answers now stored ss rest
+    by : ((rest : Result (List (List Fresh)) PerError) → PlansAll converters.rules converters.answers now stored ss rest
         → IfOk rest (λ contents. length contents ≡ length ss))
-        → (first : Result (List Fresh) PerError) → Continues first (PlansAll rules answers now stored ss) plan
+        → (first : Result (List Fresh) PerError)
+        → Continues first (PlansAll converters.rules converters.answers now stored ss) plan
         → IfOk plan (λ contents. length contents ≡ suc (length ss))
     by later (Err e) cont = subst (λ (x : Result (List (List Fresh)) PerError).
         IfOk x (λ contents. length contents ≡ suc (length ss))) (sym cont) tt
@@ -293,21 +295,21 @@ updated_so : (r : Application) (row : Result InProgress PerError) → r.stage �
 updated_so r (Ok p) rests is least = closed_so r (updated_app p r.disk) rests is least
 updated_so r (Err e) rests is least = tt
 
-begun_plan : (rules : List Rule) (answers : Answers) (now : ℕ) (stored : StorageData → StorageContents) (o : Offer)
+begun_plan : (converters : Converters) (now : ℕ) (stored : StorageData → StorageContents) (o : Offer)
     (plan : Result (List (List Fresh)) PerError)
-    → PlansAll rules answers now stored o.deployment.storages plan
+    → PlansAll converters.rules converters.answers now stored o.deployment.storages plan
     → IfOk (begun_by o plan) (λ p. (length p.contents ≡ length p.deployment.storages) × (p.built ≡ 0))
-begun_plan rules answers now stored o (Ok contents) plans = by (nat_le greatest_generation o.generation)
+begun_plan converters now stored o (Ok contents) plans = by (nat_le greatest_generation o.generation)
   where
     same : length contents ≡ length o.deployment.storages
-    same = plan_length rules answers now stored o.deployment.storages (Ok contents) plans
+    same = plan_length converters now stored o.deployment.storages (Ok contents) plans
 
     by : (test : Bool) → IfOk {T = InProgress} (cond test (Err (error.LimitReached limit.Generations))
         (Ok (record { manifest = o.manifest; deployment = o.deployment; contents = contents; built = 0 })))
         (λ p. (length p.contents ≡ length p.deployment.storages) × (p.built ≡ 0))
     by true = tt
     by false = (same, refl)
-begun_plan rules answers now stored o (Err e) plans = tt
+begun_plan converters now stored o (Err e) plans = tt
 
 -- the same of one that goes on in steps, with contents for each storage
 stepwise_so : (r : Application) (g : ℕ) (active : Named) (row : Result InProgress PerError) → IsApplication r
@@ -326,55 +328,56 @@ stepwise_so r g active (Ok p) is says none planned = record {
 stepwise_so r g active (Err e) is says none planned = tt
 
 -- either by what is done with the plan: where a storage is open it is refused
-offered_so : (rules : List Rule) (answers : Answers) (now : ℕ) (busy : Option (List ℕ)) (text : List ℕ)
+offered_so : (converters : Converters) (now : ℕ) (busy : Option (List ℕ)) (text : List ℕ)
     (states : List State) (g : ℕ) (active : Named) (row : Result InProgress PerError)
-    (f : InProgress → Result Outcome PerError) → BeginsWith rules answers now states
+    (f : InProgress → Result Outcome PerError) → BeginsWith converters.rules converters.answers now states
     (offer_over busy text g active None) row
     → (busy ≡ None → IfOk row (λ p. (length p.contents ≡ length p.deployment.storages) × (p.built ≡ 0))
     → IfOk (row >>= f) Lasts) → IfOk (row >>= f) Lasts
-offered_so rules answers now (Some name) text states g active row f begins go = refused_so f row _ begins
-offered_so rules answers now None text states g active row f begins go =
+offered_so converters now (Some name) text states g active row f begins go = refused_so f row _ begins
+offered_so converters now None text states g active row f begins go =
     by (deployment_of text >>= newer_version active g text) begins
   where
-    by : (offer : Result Offer PerError) → BeginsWith rules answers now states offer row → IfOk (row >>= f) Lasts
+    by : (offer : Result Offer PerError) → BeginsWith converters.rules converters.answers now states offer row
+        → IfOk (row >>= f) Lasts
     by (Err e) is = refused_so f row e is
     by (Ok o) is = go refl (subst (λ (x : Result InProgress PerError).
         IfOk x (λ p. (length p.contents ≡ length p.deployment.storages) × (p.built ≡ 0))) (sym is.2)
-        (begun_plan rules answers now (stored_for o.active.deployment
+        (begun_plan converters now (stored_for o.active.deployment
         (contents_stored o.active.deployment.storages states)) o
         is.0 is.1))
 
-begins_parts : (rules : List Rule) (answers : Answers) (now : ℕ) (text : List ℕ) (says : Says) (lacking : List ℕ)
+begins_parts : (converters : Converters) (now : ℕ) (text : List ℕ) (says : Says) (lacking : List ℕ)
     (states : List State) (busy : Option (List ℕ)) (row : Result InProgress PerError)
-    (f : InProgress → Result Outcome PerError) → BeginsWith rules answers now states
+    (f : InProgress → Result Outcome PerError) → BeginsWith converters.rules converters.answers now states
     (offered busy text (record { says = says; lacking = lacking; states = states })) row
     → ((g : ℕ) (active : Named) → says ≡ installed g active None → busy ≡ None
     → IfOk row (λ p. (length p.contents ≡ length p.deployment.storages) × (p.built ≡ 0)) → IfOk (row >>= f) Lasts)
     → IfOk (row >>= f) Lasts
 unfolding offered
-begins_parts rules answers now text nothing lacking states busy row f begins go = refused_so f row _ begins
-begins_parts rules answers now text (absent g) lacking states busy row f begins go = refused_so f row _ begins
-begins_parts rules answers now text (installed g active (Some previous)) lacking states busy row f begins go =
+begins_parts converters now text nothing lacking states busy row f begins go = refused_so f row _ begins
+begins_parts converters now text (absent g) lacking states busy row f begins go = refused_so f row _ begins
+begins_parts converters now text (installed g active (Some previous)) lacking states busy row f begins go =
     refused_so f row _ begins
-begins_parts rules answers now text (installed g active None) lacking states busy row f begins go =
-    offered_so rules answers now busy text states g active row f begins
+begins_parts converters now text (installed g active None) lacking states busy row f begins go =
+    offered_so converters now busy text states g active row f begins
     (λ least planned. go g active refl least planned)
 
-pub update_row : (rules : List Rule) (answers : Answers) (now : ℕ) (r : Application) (text : List ℕ) (outcome : Outcome)
+pub update_row : (converters : Converters) (now : ℕ) (r : Application) (text : List ℕ) (outcome : Outcome)
     → r.stage ≡ at_rest → IsApplication r
-    → (by_plan : BeginsBy rules answers now r text (with_update r) outcome) → IfOk (by_plan.0 >>= with_update r) Lasts
-update_row rules answers now r text outcome rests is by_plan =
-    begins_parts rules answers now text r.disk.says r.disk.lacking r.disk.states (least_open r) by_plan.0
+    → (by_plan : BeginsBy converters now r text (with_update r) outcome) → IfOk (by_plan.0 >>= with_update r) Lasts
+update_row converters now r text outcome rests is by_plan =
+    begins_parts converters now text r.disk.says r.disk.lacking r.disk.states (least_open r) by_plan.0
     (with_update r)
     by_plan.1
     (λ g active says least planned. updated_so r by_plan.0 rests is least)
 
-pub begin_row : (rules : List Rule) (answers : Answers) (now : ℕ) (r : Application) (text : List ℕ) (outcome : Outcome)
+pub begin_row : (converters : Converters) (now : ℕ) (r : Application) (text : List ℕ) (outcome : Outcome)
     → IsApplication r
-    → (by_plan : BeginsBy rules answers now r text (with_update_begun r) outcome)
+    → (by_plan : BeginsBy converters now r text (with_update_begun r) outcome)
     → IfOk (by_plan.0 >>= with_update_begun r) Lasts
-begin_row rules answers now r text outcome is by_plan =
-    begins_parts rules answers now text r.disk.says r.disk.lacking r.disk.states (least_open r) by_plan.0
+begin_row converters now r text outcome is by_plan =
+    begins_parts converters now text r.disk.says r.disk.lacking r.disk.states (least_open r) by_plan.0
     (with_update_begun r)
     by_plan.1
     (λ g active says least planned. stepwise_so r g active by_plan.0 is says

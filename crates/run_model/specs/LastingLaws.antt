@@ -12,7 +12,6 @@ use Rattle.deployment_model.specs.Data.{StorageData}
 use Rattle.element_state.specs.declared.shapes.View.{View}
 use Rattle.element_state.specs.States.{State, Opens, Corrupt, is_worn}
 use Rattle.element_maps.specs.Sessions.{same_map, view_once_synced}
-use Rattle.migrate_fns.specs.Rules.{Rule, Answers}
 use Rattle.command_text.specs.declared.calls.Call.{Call}
 use Rattle.command_text.specs.declared.calls.Call.TheVariants as call
 use Rattle.command_text.specs.declared.calls.Event.TheVariants as event
@@ -21,10 +20,11 @@ use Rattle.command_text.specs.declared.replies.Reply.{Reply}
 use Rattle.deploy_laws.specs.Apps.{Says, nothing, absent, installed, App, app_at}
 use Rattle.deploy_rows.specs.Rows.{◌>>=◌, installing, finishing, rolling_back, wiping}
 use Rattle.deploy_rows.specs.Recovering.{recovering, resetting}
+use Rattle.run_model.specs.Converters.{Converters}
 use Rattle.run_model.specs.Found.{FoundStorage, storage_in, shape_in, with_storage_state}
 use Rattle.run_model.specs.Sessions.{Session, keys, files, seen_in, synced_in_session, seen_of, made_durable}
 use Rattle.run_model.specs.Worlds.{Application, Stage, to_open, at_rest, updating, is_to_open, update_in, Sessions}
-use Rattle.run_model.specs.Worlds.{World, app_of}
+use Rattle.run_model.specs.Worlds.{World, app_of, application_at}
 use Rattle.run_model.specs.Lasting.{IsSessionOn, AreSessionsOn, IsStageOn, IsApplication, IsWorld}
 use Rattle.run_model.specs.Later.{set_length}
 use Rattle.run_model.specs.LastingCalls.{Lasts, IsFoundIn, app_so, with_so, root_so, not_to_open, on_ok, any_ok}
@@ -46,11 +46,13 @@ use Rattle.run_model.specs.Steps.{root_opened, Step, FailsElsewhere, FailsAs, de
 abbrev pub AreSeenAgain : ℕ → Application → Type 0
 AreSeenAgain app r = (f : FoundStorage) (s : Session) (v : View) (others : List View)
     → slice_get (active_storages r.disk.says) f.number ≡ Some f.config → f.state ≡ Opens v others
-    → session_at r f.number ≡ Some s → seen_in f.config.kind (view_once_synced (shape_in app f) v (synced_in_session s)
+    → session_at r f.number ≡ Some s
+    → seen_in f.config.kind (view_once_synced (shape_in app f) v (synced_in_session s)
     (seen_of s))
     ≡ seen_of s
 
-on_there : (ss : Sessions) (cs : List StorageData) (states : List State) (n : ℕ) (config : StorageData) (state : State)
+on_there : (ss : Sessions) (cs : List StorageData) (states : List State) (n : ℕ) (config : StorageData)
+    (state : State)
     → AreSessionsOn ss cs states → slice_get cs n ≡ Some config
     → slice_get states n ≡ Some state → IsSessionOn (if_open (slice_get ss n)) config.kind state
 on_there [] cs states zero config state are config_is state_is = tt
@@ -146,51 +148,53 @@ synchronises (call.Sync n) = true
 synchronises (call.Flush n h) = true
 synchronises other = false
 
-call_so : (rules : List Rule) (answers : Answers) (app now : ℕ) (r : Application) (c : Call) (outcome : Outcome)
+call_so : (converters : Converters) (app now : ℕ) (r : Application) (c : Call) (outcome : Outcome)
     → (synchronises c ≡ true → AreSeenAgain app r) → IsApplication r
-    → (goes_beside c ≡ false → r.stage ≡ at_rest) → CallStep rules answers app now r c outcome → Lasts outcome
+    → (goes_beside c ≡ false → r.stage ≡ at_rest) → CallStep converters (application_at app now r) c outcome
+    → Lasts outcome
 unfolding app_step
-call_so rules answers app now r call.Status outcome again is rests step =
+call_so converters app now r call.Status outcome again is rests step =
     subst Lasts (sym step) (lasts_on r (status_step r r.disk.says) is (status_row r r.disk.says is))
-call_so rules answers app now r (call.Install text) outcome again is rests step =
+call_so converters app now r (call.Install text) outcome again is rests step =
     subst Lasts (sym step) (lasts_on r (done_with r (installing now text r.disk)) is (install_row r now text is))
-call_so rules answers app now r (call.Update text) outcome again is rests step =
+call_so converters app now r (call.Update text) outcome again is rests step =
     subst Lasts (sym step.2) (lasts_on r (step.0 >>= with_update r) is
-    (update_row rules answers now r text outcome (rests refl) is step))
-call_so rules answers app now r call.Finish outcome again is rests step =
+    (update_row converters now r text outcome (rests refl) is step))
+call_so converters app now r call.Finish outcome again is rests step =
     subst Lasts (sym step) (lasts_on r (done_with r (finishing r.disk)) is (finish_row r (rests refl) is))
-call_so rules answers app now r call.Rollback outcome again is rests step =
+call_so converters app now r call.Rollback outcome again is rests step =
     subst Lasts (sym step) (lasts_on r (done_with r (rolling_back (least_open r) r.disk)) is
     (rollback_row r (rests refl) is))
-call_so rules answers app now r call.Wipe outcome again is rests step =
+call_so converters app now r call.Wipe outcome again is rests step =
     subst Lasts (sym step) (lasts_on r (done_with r (wiping (least_open r) r.disk)) is (wipe_row r (rests refl) is))
-call_so rules answers app now r (call.UpdateBegin text) outcome again is rests step =
+call_so converters app now r (call.UpdateBegin text) outcome again is rests step =
     subst Lasts (sym step.2) (lasts_on r (step.0 >>= with_update_begun r) is
-    (begin_row rules answers now r text outcome is step))
-call_so rules answers app now r call.UpdateNext outcome again is rests step =
+    (begin_row converters now r text outcome is step))
+call_so converters app now r call.UpdateNext outcome again is rests step =
     subst Lasts (sym step) (lasts_on r (next_step r) is (next_row r is))
-call_so rules answers app now r call.UpdateCommit outcome again is rests step =
+call_so converters app now r call.UpdateCommit outcome again is rests step =
     subst Lasts (sym step) (lasts_on r (commit_step r) is (commit_row r is))
-call_so rules answers app now r call.UpdateAbort outcome again is rests step =
+call_so converters app now r call.UpdateAbort outcome again is rests step =
     subst Lasts (sym step) (lasts_on r (abort_step r) is (abort_row r is))
-call_so rules answers app now r (call.OpenKvs n) outcome again is rests step =
-    subst Lasts (sym step) (lasts_on r (open_step app r n kinds.Keys) is (open_row app r n kinds.Keys is (rests refl)))
-call_so rules answers app now r (call.OpenFiles n) outcome again is rests step =
+call_so converters app now r (call.OpenKvs n) outcome again is rests step =
+    subst Lasts (sym step)
+    (lasts_on r (open_step app r n kinds.Keys) is (open_row app r n kinds.Keys is (rests refl)))
+call_so converters app now r (call.OpenFiles n) outcome again is rests step =
     subst Lasts (sym step) (lasts_on r (open_step app r n kinds.Files) is
     (open_row app r n kinds.Files is (rests refl)))
-call_so rules answers app now r (call.Sync n) outcome again is rests step =
+call_so converters app now r (call.Sync n) outcome again is rests step =
     subst Lasts (sym step) (lasts_on r (sync_step app r n) is (sync_row app r n is (again refl)))
-call_so rules answers app now r (call.Flush n h) outcome again is rests step =
+call_so converters app now r (call.Flush n h) outcome again is rests step =
     subst Lasts (sym step) (lasts_on r (flush_step app r n h) is (flush_row app r n h is (again refl)))
-call_so rules answers app now r (call.Close n) outcome again is rests step =
+call_so converters app now r (call.Close n) outcome again is rests step =
     subst Lasts (sym step) (lasts_on r (close_step app r n) is (close_row app r n is))
-call_so rules answers app now r (call.RecoverStorage n) outcome again is rests step =
+call_so converters app now r (call.RecoverStorage n) outcome again is rests step =
     subst Lasts (sym step) (lasts_on r (rebuild_step r n (λ f. recovering f.config now f.state)) is
     (rebuild_row r n (λ f. recovering f.config now f.state) is))
-call_so rules answers app now r (call.ResetStorage n) outcome again is rests step =
+call_so converters app now r (call.ResetStorage n) outcome again is rests step =
     subst Lasts (sym step) (lasts_on r (rebuild_step r n (λ f. resetting f.config now f.state)) is
     (rebuild_row r n (λ f. resetting f.config now f.state) is))
-call_so rules answers app now r other outcome again is rests step =
+call_so converters app now r other outcome again is rests step =
     subst Lasts (sym step) (lasts_on r (local_step r now (local_on other) other) is
     (local_any r now (local_on other) other is))
 
@@ -204,17 +208,18 @@ at_rest_alone (updating p) c calm alone goes_on =
     (sym (ap (λ b. cond b None (Some (error.ResourceBusy (holder.Update p.deployment.version)))) alone)
     ∙ goes_on))
 
-pub answer_lasts : (rules : List Rule) (answers : Answers) (w w' : World) (app : ℕ) (c : Call) (reply : Reply)
+pub answer_lasts : (converters : Converters) (w w' : World) (app : ℕ) (c : Call) (reply : Reply)
     → (synchronises c ≡ true → AreSeenAgain app (root_opened (app_of w app)))
-    → IsWorld w → Step rules answers w (event.App app c) reply w' → IsWorld w'
-answer_lasts rules answers w w' app c reply again world step =
-    with_so w w' app step.0.1 _ world (by (beside_update (update_in (root_opened (app_of w app)).stage) c) refl step.1)
+    → IsWorld w → Step converters w (event.App app c) reply w' → IsWorld w'
+answer_lasts converters w w' app c reply again world step =
+    with_so w w' app step.0.1 _ world
+    (by (beside_update (update_in (root_opened (app_of w app)).stage) c) refl step.1)
     step.3
   where
     by : (e : Option PerError) → beside_update (update_in (root_opened (app_of w app)).stage) c ≡ e
-        → StepBeside rules answers app w.now (root_opened (app_of w app)) c e step.0 → Lasts step.0
+        → StepBeside converters (application_at app w.now (root_opened (app_of w app))) c e step.0 → Lasts step.0
     by (Some e) goes_on refused = subst Lasts (sym refused) (root_so (app_of w app) (app_so w app world))
-    by None goes_on done = call_so rules answers app w.now (root_opened (app_of w app)) c step.0 again
+    by None goes_on done = call_so converters app w.now (root_opened (app_of w app)) c step.0 again
         (root_so (app_of w app) (app_so w app world))
         (λ alone. at_rest_alone (root_opened (app_of w app)).stage c
         (not_to_open (app_of w app).disk (app_of w app).stage (app_of w app).sessions) alone goes_on) done
@@ -253,12 +258,12 @@ ends_so r f a is found read = subst (λ (b : App). IsApplication (record (withou
 
 -- a command on a storage: the root's failure ends all, and its own the session, where the other storages are as they
 -- were
-pub named_failure_lasts : (rules : List Rule) (answers : Answers) (w w' : World) (app : ℕ) (c : Call) (reply : Reply)
+pub named_failure_lasts : (converters : Converters) (w w' : World) (app : ℕ) (c : Call) (reply : Reply)
     (name : List ℕ) (f : FoundStorage) → device_storage c ≡ Some name
     → storage_in (root_opened (app_of w app)).disk name None ≡ Ok f
-    → (fails : FailsElsewhere rules answers w (event.App app c) reply w')
+    → (fails : FailsElsewhere converters w (event.App app c) reply w')
     → IsReadBeside (root_opened (app_of w app)) f (app_at fails.2.left app) → IsWorld w → IsWorld w'
-named_failure_lasts rules answers w w' app c reply name f named found fails read world =
+named_failure_lasts converters w w' app c reply name f named found fails read world =
     with_so w w' app fails.0 _ world (by fails.3) fails.6
   where
     is_found : IsFoundIn (root_opened (app_of w app)) None f
@@ -274,5 +279,6 @@ named_failure_lasts rules answers w w' app c reply name f named found fails read
         n)) named
         ∙ ap (λ (row : Result FoundStorage PerError). after_failure (app_at fails.2.left app)
         (root_opened (app_of w app)) (Some row)) found)))
-        (ends_so (root_opened (app_of w app)) f (app_at fails.2.left app) (root_so (app_of w app) (app_so w app world))
+        (ends_so (root_opened (app_of w app)) f (app_at fails.2.left app)
+        (root_so (app_of w app) (app_so w app world))
         is_found read)

@@ -1,4 +1,4 @@
--- The statements of the laws. `rules` and `answers` are the stored converters and what they may answer; `w` is a world
+-- The statements of the laws. `converters` are the stored converters and what they may answer; `w` is a world
 -- before a command and `w'` the one after it; `old`, `now` and `new` are what the model knows of the disk at moments
 -- one after another; `ds` is what is on the disk of each application, `d` a doubt and `c` a call or a case of a crash.
 -- `app`, `other`, `a` and `b` are numbers of applications, `e` is a command, `reply` its answer, and `f` a storage that
@@ -12,7 +12,6 @@ use Rattle.deployment_model.specs.Data.{StorageData}
 use Rattle.element_state.specs.declared.shapes.View.{View}
 use Rattle.element_state.specs.Kept.{HasEnough}
 use Rattle.element_state.specs.States.{State, Opens, store_at}
-use Rattle.migrate_fns.specs.Rules.{Rule, Answers}
 use Rattle.command_text.specs.declared.calls.Call.{Call}
 use Rattle.command_text.specs.declared.calls.Event.{Event}
 use Rattle.command_text.specs.declared.calls.Event.TheVariants as event
@@ -25,17 +24,18 @@ use Rattle.deploy_laws.specs.Pieces.{IsSoundApp}
 use Rattle.deploy_laws.specs.Stands.{IsLater, Stands}
 use Rattle.deploy_rows.specs.Rows.{reopened}
 use Rattle.run_model.specs.AppLaws.{IsDiskOf, Calls, OpensRoot}
+use Rattle.run_model.specs.Converters.{Converters}
 use Rattle.run_model.specs.Decided.{one_storage, OpensAsEither}
 use Rattle.run_model.specs.Moments.{Between, IsReady, StepKeeps, IsMomentOf, IsDecided}
 use Rattle.run_model.specs.KeepLaws.{StaysOnTheWay}
 use Rattle.run_model.specs.Starting.{OpenedUpTo}
 use Rattle.run_model.specs.Found.{FoundStorage, storage_in, with_storage_state}
 use Rattle.run_model.specs.Calls.{session_at}
-use Rattle.run_model.specs.Worlds.{Disks, Doubt, World, disks, disk_at, app_of, world_at, after_start, without_doubt}
+use Rattle.run_model.specs.Worlds.{Disks, Doubt, World, disks, disk_at, app_of, without_doubt}
 use Rattle.run_model.specs.Steps.{Step, StepsTo, SyncFails, FailsElsewhere, calls_device, root_opened, device_storage}
 use Rattle.run_model.specs.Lasting.{IsWorld}
 use Rattle.run_model.specs.LastingLaws.{AreSeenAgain, synchronises, IsReadBeside}
-use Rattle.run_model.specs.Runtimes.{Memory, world_of, Stepped, Stopped, Starts, StartKeeps}
+use Rattle.run_model.specs.Runtimes.{Memory, world_of, Stepped, Stopped, Starts, StartKeeps, runtime_at}
 use Rattle.run_model.specs.Endings.{Ending, HasStarted, HasEnded}
 use Rattle.run_model.specs.Turns.{Turn, turn, replies_text, IsBlamed, AreBlamed}
 use Rattle.run_model.specs.Runs.{DiskSide}
@@ -46,29 +46,29 @@ use Rattle.run_model.specs.Lives.{BeginsAfterStop, IsAmong, Job, JobMayLeave, Kn
 
 -- Two worlds that agree on an application and on the moment answer a command of it alike, where no device fails, and
 -- lead it to the same.
-abbrev pub AlikeLaw : List Rule → Answers → Type 0
-AlikeLaw rules answers = (v w v' : World) (app : ℕ) (c : Call) (reply : Reply) → app < length v.apps
+abbrev pub AlikeLaw : Converters → Type 0
+AlikeLaw converters = (v w v' : World) (app : ℕ) (c : Call) (reply : Reply) → app < length v.apps
     → app < length w.apps → app_of v app ≡ app_of w app
-    → v.now ≡ w.now → Step rules answers v (event.App app c) reply v'
-    → (w' : World) × Step rules answers w (event.App app c) reply w' × (app_of w' app ≡ app_of v' app)
+    → v.now ≡ w.now → Step converters v (event.App app c) reply v'
+    → (w' : World) × Step converters w (event.App app c) reply w' × (app_of w' app ≡ app_of v' app)
 
 -- A command of one application leaves every other as it was, however it is answered.
-abbrev pub OthersStayLaw : List Rule → Answers → Type 0
-OthersStayLaw rules answers = (w w' : World) (app other : ℕ) (c : Call) (reply : Reply) → other ≢ app
-    → StepsTo rules answers w (event.App app c) reply w'
+abbrev pub OthersStayLaw : Converters → Type 0
+OthersStayLaw converters = (w w' : World) (app other : ℕ) (c : Call) (reply : Reply) → other ≢ app
+    → StepsTo converters w (event.App app c) reply w'
     → app_of w' other ≡ app_of w other
 
 -- A command that calls no device ends no doubt and makes none, also where it is refused: nothing but a sync ends one.
-abbrev pub DoubtStaysLaw : List Rule → Answers → Type 0
-DoubtStaysLaw rules answers = (w w' : World) (app : ℕ) (c : Call) (reply : Reply)
+abbrev pub DoubtStaysLaw : Converters → Type 0
+DoubtStaysLaw converters = (w w' : World) (app : ℕ) (c : Call) (reply : Reply)
     → calls_device (app_of w app) c ≡ false
-    → StepsTo rules answers w (event.App app c) reply w' → w'.doubt ≡ w.doubt
+    → StepsTo converters w (event.App app c) reply w' → w'.doubt ≡ w.doubt
 
 -- A command on a storage that failed at the device ends its session.
-abbrev pub SessionEndsLaw : List Rule → Answers → Type 0
-SessionEndsLaw rules answers = (w w' : World) (app : ℕ) (c : Call) (reply : Reply) (name : List ℕ) (f : FoundStorage)
+abbrev pub SessionEndsLaw : Converters → Type 0
+SessionEndsLaw converters = (w w' : World) (app : ℕ) (c : Call) (reply : Reply) (name : List ℕ) (f : FoundStorage)
     → app < length w.apps → device_storage c ≡ Some name
-    → storage_in (app_of w app).disk name None ≡ Ok f → FailsElsewhere rules answers w (event.App app c) reply w'
+    → storage_in (app_of w app).disk name None ≡ Ok f → FailsElsewhere converters w (event.App app c) reply w'
     → session_at (app_of w' app) f.number ≡ None
 
 -- A storage in another state comes later, as each row of a deployment does.
@@ -78,16 +78,16 @@ StorageLaterLaw = (a : App) (f : FoundStorage) (state : State) → IsLater a (wi
 -- ---- what holds of every world
 
 -- Setting the moment keeps what holds of every world.
-abbrev pub NowLastsLaw : List Rule → Answers → Type 0
-NowLastsLaw rules answers = (w w' : World) (t : ℕ) (reply : Reply) → IsWorld w
-    → StepsTo rules answers w (event.Now t) reply w' → IsWorld w'
+abbrev pub NowLastsLaw : Converters → Type 0
+NowLastsLaw converters = (w w' : World) (t : ℕ) (reply : Reply) → IsWorld w
+    → StepsTo converters w (event.Now t) reply w' → IsWorld w'
 
 -- A command that was answered keeps what holds of every world. Where it makes a session durable, this needs that the
 -- session shows, once it is on the disk, what it shows now.
-abbrev pub AnswersLastLaw : List Rule → Answers → Type 0
-AnswersLastLaw rules answers = (w w' : World) (app : ℕ) (c : Call) (reply : Reply)
+abbrev pub AnswersLastLaw : Converters → Type 0
+AnswersLastLaw converters = (w w' : World) (app : ℕ) (c : Call) (reply : Reply)
     → (synchronises c ≡ true → AreSeenAgain app (root_opened (app_of w app))) → IsWorld w
-    → Step rules answers w (event.App app c) reply w' → IsWorld w'
+    → Step converters w (event.App app c) reply w' → IsWorld w'
 
 -- A failed sync that was to end a doubt keeps what holds of every world.
 abbrev pub FailedSyncLastsLaw : Type 0
@@ -95,18 +95,18 @@ FailedSyncLastsLaw = (w w' : World) (app : ℕ) (c : Call) (reply : Reply) → I
     → SyncFails w (event.App app c) reply w' → IsWorld w'
 
 -- A command that names no storage and whose device failed keeps what holds of every world, whatever was read then.
-abbrev pub FailureLastsLaw : List Rule → Answers → Type 0
-FailureLastsLaw rules answers = (w w' : World) (app : ℕ) (c : Call) (reply : Reply) → device_storage c ≡ None
+abbrev pub FailureLastsLaw : Converters → Type 0
+FailureLastsLaw converters = (w w' : World) (app : ℕ) (c : Call) (reply : Reply) → device_storage c ≡ None
     → IsWorld w
-    → FailsElsewhere rules answers w (event.App app c) reply w' → IsWorld w'
+    → FailsElsewhere converters w (event.App app c) reply w' → IsWorld w'
 
 -- A command on a storage whose device failed keeps what holds of every world, where what was read is what was there but
 -- for that storage.
-abbrev pub StorageFailureLastsLaw : List Rule → Answers → Type 0
-StorageFailureLastsLaw rules answers = (w w' : World) (app : ℕ) (c : Call) (reply : Reply) (name : List ℕ)
+abbrev pub StorageFailureLastsLaw : Converters → Type 0
+StorageFailureLastsLaw converters = (w w' : World) (app : ℕ) (c : Call) (reply : Reply) (name : List ℕ)
     (f : FoundStorage) → device_storage c ≡ Some name
     → storage_in (root_opened (app_of w app)).disk name None ≡ Ok f
-    → (fails : FailsElsewhere rules answers w (event.App app c) reply w')
+    → (fails : FailsElsewhere converters w (event.App app c) reply w')
     → IsReadBeside (root_opened (app_of w app)) f (app_at fails.2.left app) → IsWorld w → IsWorld w'
 
 -- ---- moments
@@ -135,7 +135,8 @@ OpensAsEitherLaw = (app g bank version : ℕ) (s : StorageData) (v : View) (othe
 
 -- a command that calls no disk keeps each application
 abbrev pub IdleKeepsLaw : Medium → Type 0
-IdleKeepsLaw m = (app : ℕ) (w w' : World) → app < 8 → IsDiskOf app (disks w) m → disks w' ≡ disks w → w'.doubt ≡ w.doubt
+IdleKeepsLaw m = (app : ℕ) (w w' : World) → app < 8 → IsDiskOf app (disks w) m → disks w' ≡ disks w → w'.doubt
+    ≡ w.doubt
     → StepKeeps app w w' m m
 
 -- a command in a doubt whose sync failed keeps each application
@@ -175,7 +176,8 @@ RootThenLaw old now new = (app : ℕ) (before opened after : Disks) → IsLater 
 abbrev pub CallKeepsLaw : (old new : Medium) → Type 0
 CallKeepsLaw old new = (a app : ℕ) (w w' : World) → app < 8 → Calls a (disks w') old new
     → ((b : ℕ) → a ≢ b → disk_at (disks w') b ≡ disk_at (disks w) b)
-    → w.doubt ≡ None → w'.doubt ≡ None → (IsCleanApp a old.image → IsCleanApp a new.image) → IsDiskOf app (disks w) old
+    → w.doubt ≡ None → w'.doubt ≡ None → (IsCleanApp a old.image → IsCleanApp a new.image)
+    → IsDiskOf app (disks w) old
     → StepKeeps app w w' old new
 
 -- A command whose device failed keeps each application: the world after it is in doubt between what was and what the
@@ -191,7 +193,8 @@ CallFailsLaw old new = (a app : ℕ) (w w' : World) (d : Doubt) → app < 8 → 
 abbrev pub FailureKeepsLaw : (old new : Medium) → Type 0
 FailureKeepsLaw old new = (app : ℕ) (w w' : World) (d : Doubt) → w'.doubt ≡ Some d → d.before ≡ disks w
     → Elapses old new → IsDiskOf app (disks w) old
-    → new.now d.case → d.case.left ≡ new.image → (IsReady app w old → EachCase (Between app (disks w) d.after) old new)
+    → new.now d.case → d.case.left ≡ new.image
+    → (IsReady app w old → EachCase (Between app (disks w) d.after) old new)
     → StepKeeps app w w' old new
 
 -- ---- the start
@@ -212,15 +215,15 @@ AllOpenedLaw old now = OpenedUpTo 8 old now → StartKeeps old now
 
 -- Over any number of jobs of a life (a run, an audit, an export or an import each), the places of each application are
 -- clean, and it stands between the two states of one of the pairs that the life keeps.
-abbrev pub LifeLaw : {D : Type 0} → (medium : D → Medium) → List Rule → Answers → Type 0
-LifeLaw {D} medium rules answers = (app : ℕ) → app < 8 → (m : D) (pairs : List Pair)
-    → Life medium rules answers app m pairs → Known app (medium m) pairs
+abbrev pub LifeLaw : {D : Type 0} → (medium : D → Medium) → Converters → Type 0
+LifeLaw {D} medium converters = (app : ℕ) → app < 8 → (m : D) (pairs : List Pair)
+    → Life medium converters app m pairs → Known app (medium m) pairs
 
 -- By what a power loss leaves, with its damage, the application stands between the two states of one of the pairs that
 -- were there before.
-abbrev pub LifeStopsLaw : {D : Type 0} → (medium : D → Medium) → List Rule → Answers → Type 0
-LifeStopsLaw {D} medium rules answers = (app : ℕ) → app < 8 → (old new m : D) (pairs : List Pair)
-    → Life medium rules answers app old pairs → (job : Job rules answers app (medium old) (medium new))
+abbrev pub LifeStopsLaw : {D : Type 0} → (medium : D → Medium) → Converters → Type 0
+LifeStopsLaw {D} medium converters = (app : ℕ) → app < 8 → (old new m : D) (pairs : List Pair)
+    → Life medium converters app old pairs → (job : Job converters app (medium old) (medium new))
     → (stop : BeginsAfterStop app (JobMayLeave (medium old) (medium new) job)
     (pairs_of app (medium old) (medium new) job pairs) (medium m))
     → (p : Pair) × IsAmong (pairs_of app (medium old) (medium new) job pairs) p
@@ -236,46 +239,44 @@ BlamedLaw = (before : ℕ) (ts : List Turn) (t : Turn) (after : ℕ) → AreBlam
     → IsBlamed after t.faults t.reply → AreBlamed before (ts ++ t ∷ []) t.faults
 
 -- a start that ended is a run without a command
-abbrev pub RunBeginsLaw : List Rule → Answers → (old new : Medium) → Type 0
-RunBeginsLaw rules answers old new = (memory : Memory) → Elapses old new → Starts memory old new
-    → Going rules answers (world_at old.image) (after_start (world_at old.image)) [] memory None old new
+abbrev pub RunBeginsLaw : Converters → (old new : Medium) → Type 0
+RunBeginsLaw converters old new = (memory : Memory) → Elapses old new → Starts memory old new
+    → Going converters old [] None (runtime_at memory new)
 
 -- a start that did not end is a run that ended there, before any line was taken
-abbrev pub StartStopsLaw : List Rule → Answers → (old new : Medium) → Type 0
-StartStopsLaw rules answers old new = (ending : Ending) (before after : Option (List ℕ)) → Elapses old new
+abbrev pub StartStopsLaw : Converters → (old new : Medium) → Type 0
+StartStopsLaw converters old new = (ending : Ending) (before after : Option (List ℕ)) → Elapses old new
     → ¬ (HasStarted ending) → StartKeeps old new
-    → DiskSide (record { rules = rules; answers = answers }) ending
+    → DiskSide converters ending
     (record { lines = []; all = []; turns = []; before = before; now = after }) old new
 
 -- A run that came through these turns from `old` to `now`, and then a command that is answered, also by the failure of
 -- the device, which leads from `now` to `new`, are a run that came one turn further: with this command, its reply and
 -- the world after it.
-abbrev pub RunGoesOnLaw : List Rule → Answers → (old now new : Medium) → Type 0
-RunGoesOnLaw rules answers old now new = (turns : List Turn) (e : Event) (reply : Reply) (memory memory' : Memory)
+abbrev pub RunGoesOnLaw : Converters → (old now new : Medium) → Type 0
+RunGoesOnLaw converters old now new = (turns : List Turn) (e : Event) (reply : Reply) (memory memory' : Memory)
     (doubt : Option Doubt) → Elapses now new
-    → Going rules answers (world_at old.image) (after_start (world_at old.image)) turns memory doubt old now
-    → (s : Stepped rules answers e reply memory memory' doubt now new)
-    → Going rules answers (world_at old.image) (after_start (world_at old.image))
-    (turns ++ turn e reply new (world_of new.image memory' s.doubt') ∷ []) memory' s.doubt' old new
+    → Going converters old turns doubt (runtime_at memory now)
+    → (s : Stepped converters e reply doubt (runtime_at memory now) (runtime_at memory' new))
+    → Going converters old (turns ++ turn e reply new (world_of new.image memory' s.doubt') ∷ []) s.doubt'
+    (runtime_at memory' new)
 
 -- where every command has ended, all that a run promises of the disk follows
-abbrev pub RunEndsLaw : List Rule → Answers → (old now : Medium) → Type 0
-RunEndsLaw rules answers old now = (ending : Ending) (lines all : List (List ℕ)) (turns : List Turn)
+abbrev pub RunEndsLaw : Converters → (old now : Medium) → Type 0
+RunEndsLaw converters old now = (ending : Ending) (lines all : List (List ℕ)) (turns : List Turn)
     (before after : Option (List ℕ)) (memory : Memory) (doubt : Option Doubt)
-    → HasStarted ending → Going rules answers (world_at old.image)
-    (after_start (world_at old.image)) turns memory doubt old
-    now
-    → DiskSide (record { rules = rules; answers = answers }) ending
+    → HasStarted ending → Going converters old turns doubt (runtime_at memory now)
+    → DiskSide converters ending
     (record { lines = lines; all = all; turns = turns; before = before; now = after }) old now
 
 -- all that a run promises of the disk follows also where the command `e` of the next line, `text`, is in progress, once
 -- the text of every reply before it is written; `others` are the lines after it
-abbrev pub RunStopsLaw : List Rule → Answers → (old now new : Medium) → Type 0
-RunStopsLaw rules answers old now new = (ending : Ending) (lines all others : List (List ℕ)) (text : List ℕ)
+abbrev pub RunStopsLaw : Converters → (old now new : Medium) → Type 0
+RunStopsLaw converters old now new = (ending : Ending) (lines all others : List (List ℕ)) (text : List ℕ)
     (turns : List Turn) (before after : Option (List ℕ)) (e : Event)
     (memory : Memory) (doubt : Option Doubt) → Elapses now new → HasStarted ending → ¬ (HasEnded ending)
     → Appends before after (replies_text turns) → all ≡ lines ++ text ∷ others → IsLine text (line.Event e)
-    → Going rules answers (world_at old.image) (after_start (world_at old.image)) turns memory doubt old now
-    → Stopped rules answers e memory doubt now new
-    → DiskSide (record { rules = rules; answers = answers }) ending
+    → Going converters old turns doubt (runtime_at memory now)
+    → Stopped converters e doubt (runtime_at memory now) new
+    → DiskSide converters ending
     (record { lines = lines; all = all; turns = turns; before = before; now = after }) old new

@@ -1,6 +1,7 @@
 pub mod Found
 pub mod Sessions
 pub mod Worlds
+pub mod Converters
 pub mod Calls
 pub mod Steps
 pub mod Costs

@@ -11,14 +11,14 @@ use Rattle.disk_model.specs.Medium.{Medium, Quiet, OnlyReads, WritesNothing, IsI
 use Rattle.disk_model.specs.declared.place.Place.{Place}
 use Rattle.disk_model.specs.lemmas.Frames.{settled_on}
 use Rattle.element_state.specs.Clean.{IsPiece}
-use Rattle.migrate_fns.specs.Rules.{Rule, Answers}
 use Rattle.deploy_laws.specs.Apps.{App, Says, absent, app_at, installed, nothing, IsCleanApp}
 use Rattle.deploy_laws.specs.Pieces.{DecaysApp, IsPlaceOn, IsSoundApp}
 use Rattle.deploy_laws.specs.Places.{IsFileOf, IsNoFileOf}
 use Rattle.deploy_laws.specs.Stands.{Stands, StandsCase, same_root, HasEnoughRoot}
 use Rattle.deploy_rows.specs.Rows.{reopened}
 use Rattle.run_model.specs.AppLaws.{AppLaws}
-use Rattle.run_model.specs.Edges.{Converters, Edges}
+use Rattle.run_model.specs.Converters.{Converters}
+use Rattle.run_model.specs.Edges.{Edges}
 use Rattle.run_model.specs.Endings.{Ending}
 use Rattle.run_model.specs.Moments.{
   AreImaged,
@@ -115,17 +115,17 @@ pub record LooksOnly (old new : Medium) : Type 0 where
 
 -- a run on a disk whose bytes are modelled, with all that it promises of the disk (`DiskSide`), where what reads gave
 -- after each command that failed has nothing of the application that passes its hash by chance
-pub record Ran (rules : List Rule) (answers : Answers) (app : ℕ) (old new : Medium) : Type 0 where
+pub record Ran (converters : Converters) (app : ℕ) (old new : Medium) : Type 0 where
   pub ending : Ending
   pub handling : Handling
-  pub disk : DiskSide (record { rules = rules; answers = answers }) ending handling old new
+  pub disk : DiskSide converters ending handling old new
   pub sound : AreSoundDoubts app disk.reached
 
 -- any run is one, where what its failed commands read is sound
 pub ran_of : (told : Bool) (tells : IsTrue told) (converters : Converters) (status : ℕ) (app : ℕ)
     (before after : Edges Medium) → (run : Run told converters status before after)
     → AreSoundDoubts app (run.disk tells).reached
-    → Ran converters.rules converters.answers app before.disk after.disk
+    → Ran converters app before.disk after.disk
 ran_of told tells converters status app before after run sound = record {
   ending = run.ending;
   handling = record {
@@ -140,30 +140,30 @@ ran_of told tells converters status app before after run sound = record {
 }
 
 -- the pairs after a run, from those before it
-abbrev pub pairs_of_run : {rules : List Rule} → {answers : Answers} → (app : ℕ) → (old new : Medium)
-    → Ran rules answers app old new → (earlier : List Pair) → List Pair
+abbrev pub pairs_of_run : {converters : Converters} → (app : ℕ) → (old new : Medium)
+    → Ran converters app old new → (earlier : List Pair) → List Pair
 pairs_of_run app old new run earlier = pairs_after app (world_at old.image) run.disk.reached run.disk.next earlier
 
 -- A job as one application sees it: a run; one that looks and writes nothing, as an audit, an export and a refused
 -- import; an import into a storage of it, by which it becomes `next`; and one into a storage of another application.
-pub data Job (rules : List Rule) (answers : Answers) (app : ℕ) (old new : Medium) : Type 0 where
-  runs : Ran rules answers app old new → Job rules answers app old new
-  looks : LooksOnly old new → Job rules answers app old new
+pub data Job (converters : Converters) (app : ℕ) (old new : Medium) : Type 0 where
+  runs : Ran converters app old new → Job converters app old new
+  looks : LooksOnly old new → Job converters app old new
   imports : (next : App)
       → (IsCleanApp app old.image → EachCase (OrBefore old (StandsCase app (app_at old.image app) next)) old new)
-      → Job rules answers app old new
+      → Job converters app old new
   imports_beside : (other : ℕ) → ¬ (other ≡ app)
-      → EachCase (OrBefore old (IsSettledOn (IsNoFileOf other) old.image)) old new → Job rules answers app old new
+      → EachCase (OrBefore old (IsSettledOn (IsNoFileOf other) old.image)) old new → Job converters app old new
 
 -- what a crash at its end may leave; of a job that is no run, at any moment of it
-abbrev pub JobMayLeave : {rules : List Rule} → {answers : Answers} → {app : ℕ} → (old new : Medium)
-    → Job rules answers app old new → Case → Type 0
+abbrev pub JobMayLeave : {converters : Converters} → {app : ℕ} → (old new : Medium)
+    → Job converters app old new → Case → Type 0
 JobMayLeave old new (runs run) c = new.now c
 JobMayLeave old new other c = new.since old.moment c
 
 -- the pairs after a job, from those before it, which a job that is no run may still have left
-abbrev pub pairs_of : {rules : List Rule} → {answers : Answers} → (app : ℕ) → (old new : Medium)
-    → Job rules answers app old new → (earlier : List Pair) → List Pair
+abbrev pub pairs_of : {converters : Converters} → (app : ℕ) → (old new : Medium)
+    → Job converters app old new → (earlier : List Pair) → List Pair
 pairs_of app old new (runs run) earlier = pairs_of_run app old new run earlier
 pairs_of app old new (imports next stands) earlier = fresh_pair (app_at old.image app) next ∷ earlier
 pairs_of app old new other earlier = fresh_pair (app_at old.image app) (app_at old.image app) ∷ earlier
@@ -214,24 +214,24 @@ pub record BeginsAfterStop (app : ℕ) (pending : Case → Type 0) (pairs : List
 -- A disk that was formatted once, and then job after job. A job ends by itself, by a process that is killed, or by
 -- power that is lost: as over a disk that fails from then on. The next begins with some of what is pending, over what
 -- reads then give, where files may be damaged; or after a stop, with nothing pending and some files damaged.
-pub data Life {D : Type 0} (medium : D → Medium) (rules : List Rule) (answers : Answers) (app : ℕ)
+pub data Life {D : Type 0} (medium : D → Medium) (converters : Converters) (app : ℕ)
     : D → List Pair → Type 0 where
   formatted : (m : D) → Quiet (medium m) → IsCleanApp app (medium m).image
-      → Life medium rules answers app m (resting_pairs (medium m).image app)
-  goes_on : (old new m : D) (pairs : List Pair) → Life medium rules answers app old pairs
-      → (job : Job rules answers app (medium old) (medium new))
+      → Life medium converters app m (resting_pairs (medium m).image app)
+  goes_on : (old new m : D) (pairs : List Pair) → Life medium converters app old pairs
+      → (job : Job converters app (medium old) (medium new))
       → BeginsOver app (JobMayLeave (medium old) (medium new) job) (medium m)
-      → Life medium rules answers app m (pairs_of app (medium old) (medium new) job pairs)
-  goes_on_damaged : (old new m : D) (pairs : List Pair) → Life medium rules answers app old pairs
-      → (job : Job rules answers app (medium old) (medium new))
+      → Life medium converters app m (pairs_of app (medium old) (medium new) job pairs)
+  goes_on_damaged : (old new m : D) (pairs : List Pair) → Life medium converters app old pairs
+      → (job : Job converters app (medium old) (medium new))
       → (begins : BeginsDamaged app (JobMayLeave (medium old) (medium new) job)
       (pairs_of app (medium old) (medium new) job pairs) (medium m))
-      → Life medium rules answers app m (all_aged begins.damaged (pairs_of app (medium old) (medium new) job pairs))
-  stops : (old new m : D) (pairs : List Pair) → Life medium rules answers app old pairs
-      → (job : Job rules answers app (medium old) (medium new))
+      → Life medium converters app m (all_aged begins.damaged (pairs_of app (medium old) (medium new) job pairs))
+  stops : (old new m : D) (pairs : List Pair) → Life medium converters app old pairs
+      → (job : Job converters app (medium old) (medium new))
       → BeginsAfterStop app (JobMayLeave (medium old) (medium new) job)
       (pairs_of app (medium old) (medium new) job pairs) (medium m)
-      → Life medium rules answers app m (resting_pairs (medium m).image app)
+      → Life medium converters app m (resting_pairs (medium m).image app)
 
 -- ---- what is known between two jobs
 
@@ -398,8 +398,8 @@ still_there laws app image pairs c lt clean settled = (
 )
 
 -- after a job each case stands between two of its pairs
-pub behind : {rules : List Rule} {answers : Answers} → AppLaws → (app : ℕ) (old new : Medium) (earlier : List Pair)
-    → app < 8 → (job : Job rules answers app old new) → Known app old earlier → (c : Case) → JobMayLeave old new job c
+pub behind : {converters : Converters} → AppLaws → (app : ℕ) (old new : Medium) (earlier : List Pair)
+    → app < 8 → (job : Job converters app old new) → Known app old earlier → (c : Case) → JobMayLeave old new job c
     → StandsAmong app (pairs_of app old new job earlier) c
 behind laws app old new earlier lt (runs run) known c at =
     moment_after app (world_at old.image) run.disk.reached run.disk.next earlier c
@@ -419,8 +419,8 @@ behind laws app old new earlier lt (imports_beside other differs settled) known 
     (laws.others_case other app old.image c differs here))
     (settled c at)
 
-job_imaged : {rules : List Rule} {answers : Answers} (app : ℕ) (old new : Medium) (earlier : List Pair) → app < 8
-    → (job : Job rules answers app old new) → BeginImaged app earlier
+job_imaged : {converters : Converters} (app : ℕ) (old new : Medium) (earlier : List Pair) → app < 8
+    → (job : Job converters app old new) → BeginImaged app earlier
     → BeginImaged app (pairs_of app old new job earlier)
 job_imaged app old new earlier lt (runs run) more = after_imaged app (world_at old.image) run.disk.reached
     run.disk.next earlier (entry_imaged app lt old.image) (run.disk.imaged app lt) more
@@ -428,8 +428,8 @@ job_imaged app old new earlier lt (looks look) more = ((old.image, refl), more)
 job_imaged app old new earlier lt (imports next stands) more = ((old.image, refl), more)
 job_imaged app old new earlier lt (imports_beside other differs settled) more = ((old.image, refl), more)
 
-job_rooted : {rules : List Rule} {answers : Answers} (app : ℕ) (old new : Medium) (earlier : List Pair)
-    → (job : Job rules answers app old new) → AreRooted app earlier → AreRooted app (pairs_of app old new job earlier)
+job_rooted : {converters : Converters} (app : ℕ) (old new : Medium) (earlier : List Pair)
+    → (job : Job converters app old new) → AreRooted app earlier → AreRooted app (pairs_of app old new job earlier)
 job_rooted app old new earlier (runs run) more =
     after_rooted app (world_at old.image) run.disk.reached run.disk.next earlier more
 job_rooted app old new earlier (looks look) more = (inl refl, more)
@@ -552,23 +552,23 @@ stopped_so app pending pairs m stands stop =
 
 -- Each job of a life begins with clean places, whatever ends came before, and in each case the application stands
 -- between what it was after the last command and what was then in progress.
-pub lives_go_on : {D : Type 0} → AppLaws → (medium : D → Medium) (rules : List Rule) (answers : Answers) (app : ℕ)
-    → app < 8 → (m : D) (pairs : List Pair) → Life medium rules answers app m pairs → Known app (medium m) pairs
-lives_go_on laws medium rules answers app lt _ _ (formatted m quiet clean) = rests laws app lt (medium m) quiet clean
-lives_go_on laws medium rules answers app lt _ _ (goes_on old new m pairs life job over) =
-    let known : Known app (medium old) pairs = lives_go_on laws medium rules answers app lt old pairs life in
+pub lives_go_on : {D : Type 0} → AppLaws → (medium : D → Medium) (converters : Converters) (app : ℕ)
+    → app < 8 → (m : D) (pairs : List Pair) → Life medium converters app m pairs → Known app (medium m) pairs
+lives_go_on laws medium converters app lt _ _ (formatted m quiet clean) = rests laws app lt (medium m) quiet clean
+lives_go_on laws medium converters app lt _ _ (goes_on old new m pairs life job over) =
+    let known : Known app (medium old) pairs = lives_go_on laws medium converters app lt old pairs life in
     begun laws app (JobMayLeave (medium old) (medium new) job) (pairs_of app (medium old) (medium new) job pairs)
     (medium m)
     (job_imaged app (medium old) (medium new) pairs lt job known.imaged)
     (job_rooted app (medium old) (medium new) pairs job known.rooted)
     (behind laws app (medium old) (medium new) pairs lt job known) over
-lives_go_on laws medium rules answers app lt _ _ (goes_on_damaged old new m pairs life job over) =
-    let known : Known app (medium old) pairs = lives_go_on laws medium rules answers app lt old pairs life in
+lives_go_on laws medium converters app lt _ _ (goes_on_damaged old new m pairs life job over) =
+    let known : Known app (medium old) pairs = lives_go_on laws medium converters app lt old pairs life in
     begun_damaged app (JobMayLeave (medium old) (medium new) job) (pairs_of app (medium old) (medium new) job pairs)
     (medium m) (job_imaged app (medium old) (medium new) pairs lt job known.imaged)
     (behind laws app (medium old) (medium new) pairs lt job known) over
-lives_go_on laws medium rules answers app lt _ _ (stops old new m pairs life job stop) =
-    let known : Known app (medium old) pairs = lives_go_on laws medium rules answers app lt old pairs life in
+lives_go_on laws medium converters app lt _ _ (stops old new m pairs life job stop) =
+    let known : Known app (medium old) pairs = lives_go_on laws medium converters app lt old pairs life in
     let (p, at, stands) = stopped_so app (JobMayLeave (medium old) (medium new) job)
     (pairs_of app (medium old) (medium new) job pairs) (medium m)
     (behind laws app (medium old) (medium new) pairs lt job known) stop in
@@ -576,8 +576,8 @@ lives_go_on laws medium rules answers app lt _ _ (stops old new m pairs life job
     p.after (root_at app stop.damaged (pairs_of app (medium old) (medium new) job pairs) p stop.enough at) stands)
 
 -- and by what each stop leaves, with its damage, it came from an image on which it stands so
-pub aged_among : {rules : List Rule} {answers : Answers} → AppLaws → (app : ℕ) → app < 8 → (old new m : Medium)
-    (pairs : List Pair) → Known app old pairs → (job : Job rules answers app old new)
+pub aged_among : {converters : Converters} → AppLaws → (app : ℕ) → app < 8 → (old new m : Medium)
+    (pairs : List Pair) → Known app old pairs → (job : Job converters app old new)
     → (stop : BeginsAfterStop app (JobMayLeave old new job) (pairs_of app old new job pairs) m)
     → (p : Pair) × IsAmong (pairs_of app old new job pairs) p × (from : Image)
     × DecaysApp app (p.damaged ++ stop.damaged) from m.image
@@ -594,8 +594,8 @@ aged_among laws app lt old new m pairs known job stop =
     )
 
 -- and after each stop, with its damage, it stands so between two of the pairs
-pub stops_keep : {rules : List Rule} {answers : Answers} → AppLaws → (app : ℕ) → app < 8 → (old new m : Medium)
-    (pairs : List Pair) → Known app old pairs → (job : Job rules answers app old new)
+pub stops_keep : {converters : Converters} → AppLaws → (app : ℕ) → app < 8 → (old new m : Medium)
+    (pairs : List Pair) → Known app old pairs → (job : Job converters app old new)
     → (stop : BeginsAfterStop app (JobMayLeave old new job) (pairs_of app old new job pairs) m)
     → (p : Pair) × IsAmong (pairs_of app old new job pairs) p
     × Stands app m.image (p.damaged ++ stop.damaged) p.before p.after

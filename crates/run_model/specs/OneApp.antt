@@ -4,16 +4,16 @@ use Rattle.std.specs.Prelude.{replicate, Bool, true, false, cond, ◌&&◌, ◌|
 use Rattle.std.specs.Prelude.{IsTrue, option_map}
 use Rattle.std.proofs.Common.{refl, sym, ap, ◌∙◌, subst, le_refl, inl, inr, arith, true≢false}
 use Rattle.per_base.specs.declared.errors.PerError.{PerError}
-use Rattle.migrate_fns.specs.Rules.{Rule, Answers}
 use Rattle.command_text.specs.declared.calls.Call.{Call}
 use Rattle.command_text.specs.declared.calls.Event.TheVariants as event
 use Rattle.command_text.specs.declared.replies.Reply.{Reply}
 use Rattle.deploy_laws.specs.Apps.{App, app_at}
 use Rattle.deploy_rows.specs.Rows.{reopened}
+use Rattle.run_model.specs.Converters.{Converters}
 use Rattle.run_model.specs.Found.{FoundStorage, storage_in}
 use Rattle.run_model.specs.Sessions.{Session}
 use Rattle.run_model.specs.Worlds.{Application, World, Stage, to_open, at_rest, updating, is_to_open, update_in}
-use Rattle.run_model.specs.Worlds.{or_idle, app_of, with_app}
+use Rattle.run_model.specs.Worlds.{or_idle, app_of, with_app, application_at}
 use Rattle.run_model.specs.Runtimes.{Running, with_disk}
 use Rattle.run_model.specs.Calls.{Outcome, if_open, session_at, beside_update}
 use Rattle.run_model.specs.Steps.{Step, StepsTo, FailsElsewhere, FailsAs, AppStep, doubt_after, calls_device}
@@ -27,7 +27,8 @@ get_set [] n x less = absurd (omega (arith, less))
 get_set (y ∷ ys) zero x less = refl
 get_set (y ∷ ys) (suc n) x less = get_set ys n x (omega (arith, less))
 
-get_set_other : {A : Type 0} → (xs : List A) (n k : ℕ) (x : A) → k ≢ n → slice_get (slice_set xs n x) k ≡ slice_get xs k
+get_set_other : {A : Type 0} → (xs : List A) (n k : ℕ) (x : A) → k ≢ n → slice_get (slice_set xs n x) k
+    ≡ slice_get xs k
 get_set_other [] n k x differs = refl
 get_set_other (y ∷ ys) zero zero x differs = absurd (differs refl)
 get_set_other (y ∷ ys) zero (suc k) x differs = refl
@@ -63,7 +64,8 @@ one_app disk disk' first zero (s ∷ rs) r same =
     (same_disks disk disk' (first + 1) rs (λ b le. same b (λ e. omega (arith, le, e))))
 one_app disk disk' first (suc app) (s ∷ rs) r same =
     let there : (first + 1) + app ≡ first + suc app = omega arith in
-    ap (λ (d : App). as_app d s ∷ with_disk disk' (first + 1) (slice_set rs app r)) (same first (λ e. omega (arith, e)))
+    ap (λ (d : App). as_app d s ∷ with_disk disk' (first + 1) (slice_set rs app r))
+    (same first (λ e. omega (arith, e)))
     ∙ ap (λ (xs : List Application). as_app (disk first) s ∷ xs)
     (one_app disk disk' (first + 1) app rs r (λ b differs. same b (λ e. differs (e ∙ sym there)))
     ∙ ap (λ (n : ℕ). slice_set (with_disk disk (first + 1) rs) app (as_app (disk' n) r)) there)
@@ -78,19 +80,19 @@ set_other : (w : World) (app other : ℕ) (a : Application) → other ≢ app
 set_other w app other a differs = ap or_idle (get_set_other w.apps app other a differs)
 
 -- two worlds that agree on an application and on the moment answer it alike, and lead it to the same
-pub answers_alike : (rules : List Rule) (answers : Answers) (v w v' : World) (app : ℕ) (c : Call) (reply : Reply)
+pub answers_alike : (converters : Converters) (v w v' : World) (app : ℕ) (c : Call) (reply : Reply)
     → app < length v.apps → app < length w.apps
-    → app_of v app ≡ app_of w app → v.now ≡ w.now → Step rules answers v (event.App app c) reply v'
-    → (w' : World) × Step rules answers w (event.App app c) reply w' × (app_of w' app ≡ app_of v' app)
-answers_alike rules answers v w v' app c reply in_v in_w same now step =
+    → app_of v app ≡ app_of w app → v.now ≡ w.now → Step converters v (event.App app c) reply v'
+    → (w' : World) × Step converters w (event.App app c) reply w' × (app_of w' app ≡ app_of v' app)
+answers_alike converters v w v' app c reply in_v in_w same now step =
     let outcome : Outcome = step.0 in
     let w' : World = record (with_app w app outcome.1) { doubt = doubt_after (calls_device (app_of w app) c) w.doubt }
     in (
       w',
       (
         outcome,
-        subst (λ (r : Application). AppStep rules answers app w.now r c outcome) same
-            (subst (λ (n : ℕ). AppStep rules answers app n (app_of v app) c outcome) now step.1),
+        subst (λ (r : Application). AppStep converters (application_at app w.now r) c outcome) same
+            (subst (λ (n : ℕ). AppStep converters (application_at app n (app_of v app)) c outcome) now step.1),
         step.2,
         refl,
       ),
@@ -99,13 +101,13 @@ answers_alike rules answers v w v' app c reply in_v in_w same now step =
     )
 
 -- a command leaves every other application as it was, however it is answered
-pub others_stay : (rules : List Rule) (answers : Answers) (w w' : World) (app other : ℕ) (c : Call) (reply : Reply)
+pub others_stay : (converters : Converters) (w w' : World) (app other : ℕ) (c : Call) (reply : Reply)
     → other ≢ app
-    → StepsTo rules answers w (event.App app c) reply w' → app_of w' other ≡ app_of w other
-others_stay rules answers w w' app other c reply differs (inl step) =
+    → StepsTo converters w (event.App app c) reply w' → app_of w' other ≡ app_of w other
+others_stay converters w w' app other c reply differs (inl step) =
     ap (λ (u : World). app_of u other) step.3 ∙ ap or_idle (get_set_other w.apps app other step.0.1 differs)
-others_stay rules answers w w' app other c reply differs (inr (inl fails)) = ap (λ (u : World). app_of u other) fails.2
-others_stay rules answers w w' app other c reply differs (inr (inr fails)) =
+others_stay converters w w' app other c reply differs (inr (inl fails)) = ap (λ (u : World). app_of u other) fails.2
+others_stay converters w w' app other c reply differs (inr (inr fails)) =
     ap (λ (u : World). app_of u other) fails.6 ∙ ap or_idle (get_set_other w.apps app other fails.0 differs)
 
 -- ---- a doubt stays without a sync
@@ -143,13 +145,13 @@ never_fails app now a r c r' calm (inr fails) = not_both (uses_device r.disk c)
     (or_false (is_to_open r.stage) (uses_device r.disk c) calm).1
 
 -- a command that calls no device ends no doubt and makes none, also where it is refused
-pub doubt_stays : (rules : List Rule) (answers : Answers) (w w' : World) (app : ℕ) (c : Call) (reply : Reply)
+pub doubt_stays : (converters : Converters) (w w' : World) (app : ℕ) (c : Call) (reply : Reply)
     → calls_device (app_of w app) c ≡ false
-    → StepsTo rules answers w (event.App app c) reply w' → w'.doubt ≡ w.doubt
-doubt_stays rules answers w w' app c reply calm (inl step) =
+    → StepsTo converters w (event.App app c) reply w' → w'.doubt ≡ w.doubt
+doubt_stays converters w w' app c reply calm (inl step) =
     ap (λ (u : World). u.doubt) step.3 ∙ ap (λ (b : Bool). doubt_after b w.doubt) calm
-doubt_stays rules answers w w' app c reply calm (inr (inl fails)) = ap (λ (u : World). u.doubt) fails.2
-doubt_stays rules answers w w' app c reply calm (inr (inr fails)) =
+doubt_stays converters w w' app c reply calm (inr (inl fails)) = ap (λ (u : World). u.doubt) fails.2
+doubt_stays converters w w' app c reply calm (inr (inr fails)) =
     absurd (never_fails app w.now (app_at fails.2.left app) (app_of w app) c fails.0 calm fails.3)
 
 -- ---- a session ends where its storage's command fails at the device
@@ -176,12 +178,12 @@ found_reopened : (r : Application) (name : List ℕ) → storage_in (root_opened
     ≡ storage_in r.disk name None
 found_reopened r name = found_by r.disk r.stage r.sessions name
 
-pub session_ends : (rules : List Rule) (answers : Answers) (w w' : World) (app : ℕ) (c : Call) (reply : Reply)
+pub session_ends : (converters : Converters) (w w' : World) (app : ℕ) (c : Call) (reply : Reply)
     (name : List ℕ) (f : FoundStorage) → app < length w.apps
     → device_storage c ≡ Some name → storage_in (app_of w app).disk name None ≡ Ok f
-    → FailsElsewhere rules answers w (event.App app c) reply w'
+    → FailsElsewhere converters w (event.App app c) reply w'
     → session_at (app_of w' app) f.number ≡ None
-session_ends rules answers w w' app c reply name f less named found fails =
+session_ends converters w w' app c reply name f less named found fails =
     ap (λ (u : World). session_at (app_of u app) f.number) fails.6
     ∙ ap (λ (r : Option Application). session_at (or_idle r) f.number) (get_set w.apps app fails.0 less)
     ∙ ended fails.3

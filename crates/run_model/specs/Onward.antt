@@ -4,11 +4,11 @@ use Rattle.std.proofs.Common.{refl}
 use Rattle.disk_model.specs.Case.{Case}
 use Rattle.disk_model.specs.Image.{Image}
 use Rattle.disk_model.specs.Medium.{Medium}
-use Rattle.migrate_fns.specs.Rules.{Rule, Answers}
 use Rattle.deploy_laws.specs.Apps.{App}
 use Rattle.deploy_laws.specs.Onward.{OnwardAppLaw, StandsOnward}
 use Rattle.deploy_laws.specs.Pieces.{DecaysApp, IsSoundApp}
 use Rattle.run_model.specs.AppLaws.{AppLaws}
+use Rattle.run_model.specs.Converters.{Converters}
 use Rattle.run_model.specs.Lives.{BeginsAfterStop, IsAmong, Job, JobMayLeave, Known, Life, Pair, aged_among, pairs_of}
 use Rattle.run_model.specs.Moments.{Between}
 use Rattle.run_model.specs.Worlds.{Disks, disk_at}
@@ -28,9 +28,9 @@ pub record CameOnward (app : ℕ) (damaged : List ℕ) (image : Image) (before a
 
 -- By what a power loss leaves, with its damage, the application stands so between the two states of one of the pairs
 -- that were there before.
-abbrev pub LifeOnwardLaw : {D : Type 0} → (medium : D → Medium) → List Rule → Answers → Type 0
-LifeOnwardLaw {D} medium rules answers = (app : ℕ) → app < 8 → (old new m : D) (pairs : List Pair)
-    → Life medium rules answers app old pairs → (job : Job rules answers app (medium old) (medium new))
+abbrev pub LifeOnwardLaw : {D : Type 0} → (medium : D → Medium) → Converters → Type 0
+LifeOnwardLaw {D} medium converters = (app : ℕ) → app < 8 → (old new m : D) (pairs : List Pair)
+    → Life medium converters app old pairs → (job : Job converters app (medium old) (medium new))
     → (stop : BeginsAfterStop app (JobMayLeave (medium old) (medium new) job)
     (pairs_of app (medium old) (medium new) job pairs) (medium m))
     → (p : Pair) × IsAmong (pairs_of app (medium old) (medium new) job pairs) p
@@ -41,8 +41,8 @@ moment_onward onward app before after c damaged image lt stands sound decays =
     onward app (disk_at before app) (disk_at after app) damaged c.left image lt
     (stands sound [] c.left (λ place of. record { others = λ f outside. refl; pieces = λ x is. is })) decays
 
-pub stop_onward : OnwardAppLaw → AppLaws → {rules : List Rule} {answers : Answers} (app : ℕ) → app < 8
-    → (old new m : Medium) (pairs : List Pair) → Known app old pairs → (job : Job rules answers app old new)
+pub stop_onward : OnwardAppLaw → AppLaws → {converters : Converters} (app : ℕ) → app < 8
+    → (old new m : Medium) (pairs : List Pair) → Known app old pairs → (job : Job converters app old new)
     → (stop : BeginsAfterStop app (JobMayLeave old new job) (pairs_of app old new job pairs) m)
     → (p : Pair) × IsAmong (pairs_of app old new job pairs) p
     × CameOnward app (p.damaged ++ stop.damaged) m.image p.before p.after

@@ -8,7 +8,6 @@ use Rattle.std.specs.Io.KnownBytes.{Appends}
 use Rattle.disk_model.specs.Case.{Case}
 use Rattle.disk_model.specs.Laws.{elapses_on}
 use Rattle.disk_model.specs.Medium.{Medium, OnlyReads, Quiet, IsLawful, Elapses}
-use Rattle.migrate_fns.specs.Rules.{Rule, Answers}
 use Rattle.command_text.specs.declared.calls.Event.{Event}
 use Rattle.command_text.specs.declared.replies.Reply.{Reply}
 use Rattle.command_text.specs.declared.lines.Line.TheVariants as line
@@ -17,6 +16,7 @@ use Rattle.deploy_laws.specs.Apps.{App, app_at, IsCleanApp}
 use Rattle.deploy_laws.specs.Pieces.{IsSoundApp}
 use Rattle.deploy_laws.specs.Stands.{Stands}
 use Rattle.run_model.specs.AppLaws.{AppLaws}
+use Rattle.run_model.specs.Converters.{Converters}
 use Rattle.run_model.specs.Worlds.{Application, after_start, Disks, Doubt, World, disks, disk_at, resting, all_resting}
 use Rattle.run_model.specs.Worlds.{world_at, after_run}
 use Rattle.run_model.specs.Lasting.{IsWorld, starts_so}
@@ -40,7 +40,7 @@ use Rattle.run_model.specs.Steps.{calls_device, doubt_after}
 use Rattle.run_model.specs.MomentLaws.{last_is, start_stays, step_stays, end_stays, stop_stays, sound_front}
 use Rattle.run_model.specs.KeepLaws.{rests}
 use Rattle.run_model.specs.Runtimes.{Running, Memory, with_disk, world_of, StepsOn, Stepped, Stopped, Starts}
-use Rattle.run_model.specs.Runtimes.{StartKeeps, IsUnwritten, is_refusal, writes_none}
+use Rattle.run_model.specs.Runtimes.{StartKeeps, IsUnwritten, RuntimeAt, runtime_at, world_in}
 use Rattle.run_model.specs.Starting.{at_entry}
 use Rattle.run_model.specs.Bounds.{AreBounded, IsBounded, IsBegunWithin, StartsWithin, bytes_after}
 use Rattle.run_model.specs.Endings.{Ending, HasStarted, HasEnded, has_started}
@@ -73,28 +73,37 @@ blamed_on before (u ∷ us) t after blamed cause = (blamed.0, blamed_on u.faults
 
 -- ---- what is said of a run so far
 
--- A run so far, with no command in progress: its start led from the world `entry` to `start`, and these turns, each a
--- command with its reply and the world after it, led on to what the disk, this memory and this doubt are now.
-pub record Going (rules : List Rule) (answers : Answers) (entry start : World) (turns : List Turn) (memory : Memory)
-    (doubt : Option Doubt) (old now : Medium) : Type 0 where
-  pub eight : length memory.apps ≡ 8
+-- the world once a run on this disk has started
+abbrev pub started_on : Medium → World
+started_on old = after_start (world_at old.image)
+
+start_calm : (m : Medium) → (started_on m).doubt ≡ None
+unfolding world_at
+start_calm m = refl
+
+-- A run so far from the disk `old`, with no command in progress: its start led from what was there to the applications
+-- at rest, and these turns, each a command with its reply and the world after it, led on to the runtime `now`, in this
+-- doubt.
+pub record Going (converters : Converters) (old : Medium) (turns : List Turn) (doubt : Option Doubt)
+    (now : RuntimeAt Medium) : Type 0 where
+  pub eight : length now.memory.apps ≡ 8
   -- each reply and each world is the specified one, and the last world is what is there now
-  pub follow : Follow rules answers start turns
-  pub worlds : AllByRecursion IsWorld (start ∷ worlds_of turns)
-  pub last : last_of start (worlds_of turns) ≡ world_of now.image memory doubt
+  pub follow : Follow converters (started_on old) turns
+  pub worlds : AllByRecursion IsWorld (started_on old ∷ worlds_of turns)
+  pub last : last_of (started_on old) (worlds_of turns) ≡ world_in now doubt
   -- a doubt has a case of the disk since the start, and what reads then gave; without one nothing is pending
-  pub cases : AreCases (IsReadSince old now) (worlds_of turns)
-  pub quiet : doubt ≡ None → Quiet now
+  pub cases : AreCases (IsReadSince old now.disk) (worlds_of turns)
+  pub quiet : doubt ≡ None → Quiet now.disk
   -- each application is what some image denotes, and each moment so far is one of the start or of a command
-  pub imaged : (app : ℕ) → app < 8 → AreImaged app (start ∷ worlds_of turns)
+  pub imaged : (app : ℕ) → app < 8 → AreImaged app (started_on old ∷ worlds_of turns)
   pub stayed : (app : ℕ) → app < 8 → IsCleanApp app old.image → AreSoundDoubts app (worlds_of turns)
-      → Stayed app entry start (worlds_of turns) old now
+      → Stayed app (world_at old.image) (started_on old) (worlds_of turns) old now.disk
   -- what each command wrote, from the bytes that the start left on
   pub begun : DiskBytes
   pub starts : StartsWithin (bytes_now old) begun
-  pub bounded : AreBounded rules answers start begun turns
-  pub held : bytes_now now ≡ bytes_after begun turns
-  pub time : Elapses old now
+  pub bounded : AreBounded converters (started_on old) begun turns
+  pub held : bytes_now now.disk ≡ bytes_after begun turns
+  pub time : Elapses old now.disk
 
 -- ---- what applications came from
 
@@ -111,19 +120,20 @@ after_imaged app false doubt is = is
 side_as : (app : ℕ) (w v : World) → w ≡ v → IsSideImaged app v.doubt → IsSideImaged app w.doubt
 side_as app w v same is = subst (λ (x : World). IsSideImaged app x.doubt) (sym same) is
 
-side_imaged : (rules : List Rule) (answers : Answers) (app : ℕ) (w : World) (e : Event) (reply : Reply) (w' : World)
-    (old new : Medium) → IsWorldImaged app w → StepsOn rules answers w e reply w' old new → IsSideImaged app w'.doubt
-side_imaged rules answers app w (event.Now t) reply w' old new is (inl step) =
+side_imaged : (converters : Converters) (app : ℕ) (w : World) (e : Event) (reply : Reply) (w' : World)
+    (old new : Medium) → IsWorldImaged app w → StepsOn converters w e reply w' (OnlyReads old new)
+    → IsSideImaged app w'.doubt
+side_imaged converters app w (event.Now t) reply w' old new is (inl step) =
     side_as app w' (record w { now = t }) step.1 is.1
-side_imaged rules answers app w (event.App b c) reply w' old new is (inl step) =
+side_imaged converters app w (event.App b c) reply w' old new is (inl step) =
     side_as app w' (record (with_app w b step.0.1) { doubt = doubt_after (calls_device (app_of w b) c) w.doubt })
     step.3
     (after_imaged app (calls_device (app_of w b) c) w.doubt is.1)
-side_imaged rules answers app w (event.Now t) reply w' old new is (inr (inl fails)) = absurd fails.0
-side_imaged rules answers app w (event.App b c) reply w' old new is (inr (inl fails)) =
+side_imaged converters app w (event.Now t) reply w' old new is (inr (inl fails)) = absurd fails.0
+side_imaged converters app w (event.App b c) reply w' old new is (inr (inl fails)) =
     side_as app w' w fails.0.2 is.1
-side_imaged rules answers app w (event.Now t) reply w' old new is (inr (inr fails)) = absurd fails
-side_imaged rules answers app w (event.App b c) reply w' old new is (inr (inr fails)) =
+side_imaged converters app w (event.Now t) reply w' old new is (inr (inr fails)) = absurd fails
+side_imaged converters app w (event.App b c) reply w' old new is (inr (inr fails)) =
     side_as app w' (record (with_app w b fails.0) {
       doubt = Some (record { before = disks w; after = fails.1; case = fails.2 });
     }) fails.6 is.0
@@ -170,21 +180,21 @@ exit_clean laws app w none next old new is clean at_exit c now left passes = ⊎
 -- ---- one command more
 
 -- whatever else is known of the disk, it is a step
-steps_on : (rules : List Rule) (answers : Answers) (w : World) (e : Event) (reply : Reply) (w' : World)
-    (old new : Medium) → StepsOn rules answers w e reply w' old new
-    → StepsTo rules answers w e reply w'
-steps_on rules answers w e reply w' old new (inl step) = inl step
-steps_on rules answers w e reply w' old new (inr (inl fails)) = inr (inl fails.0)
-steps_on rules answers w e reply w' old new (inr (inr fails)) = inr (inr fails)
+steps_on : (converters : Converters) (w : World) (e : Event) (reply : Reply) (w' : World)
+    (old new : Medium) → StepsOn converters w e reply w' (OnlyReads old new)
+    → StepsTo converters w e reply w'
+steps_on converters w e reply w' old new (inl step) = inl step
+steps_on converters w e reply w' old new (inr (inl fails)) = inr (inl fails.0)
+steps_on converters w e reply w' old new (inr (inr fails)) = inr (inr fails)
 
 worlds_on : (ts : List Turn) (t : Turn) → worlds_of (ts ++ t ∷ []) ≡ worlds_of ts ++ t.world ∷ []
 worlds_on [] t = refl
 worlds_on (u ∷ us) t = ap (λ (ws : List World). u.world ∷ ws) (worlds_on us t)
 
-follow_on : (rules : List Rule) (answers : Answers) (w : World) (ts : List Turn) (t : Turn) → Follow rules answers w ts
-    → StepsTo rules answers (last_of w (worlds_of ts)) t.event t.reply t.world → Follow rules answers w (ts ++ t ∷ [])
-follow_on rules answers w [] t follow step = (step, tt)
-follow_on rules answers w (u ∷ us) t follow step = (follow.0, follow_on rules answers u.world us t follow.1 step)
+follow_on : (converters : Converters) (w : World) (ts : List Turn) (t : Turn) → Follow converters w ts
+    → StepsTo converters (last_of w (worlds_of ts)) t.event t.reply t.world → Follow converters w (ts ++ t ∷ [])
+follow_on converters w [] t follow step = (step, tt)
+follow_on converters w (u ∷ us) t follow step = (follow.0, follow_on converters u.world us t follow.1 step)
 
 case_on : (P Q : Case → Type 0) (doubt : Option Doubt) → ((c : Case) → P c → Q c) → IsCaseOfDoubt P doubt
     → IsCaseOfDoubt Q doubt
@@ -214,7 +224,8 @@ case_last P w (u ∷ us) is are = case_last P u us are.0 are.1
 new_case : (P Q : Case → Type 0) (doubt doubt' : Option Doubt) → ((c : Case) → P c → Q c) → IsCaseOfDoubt P doubt
     → ((d : Doubt) → doubt' ≡ Some d → (doubt ≡ Some d) ⊎ Q d.case) → IsCaseOfDoubt Q doubt'
 new_case P Q doubt None more is new = tt
-new_case P Q doubt (Some d) more is new = ⊎_elim (λ same. more d.case (subst (λ x. IsCaseOfDoubt P x) same is)) (λ q. q)
+new_case P Q doubt (Some d) more is new = ⊎_elim (λ same. more d.case (subst (λ x. IsCaseOfDoubt P x) same is))
+    (λ q. q)
     (new d refl)
 
 -- what was read since an earlier moment stays so
@@ -235,33 +246,36 @@ after_on : (b : DiskBytes) (ts : List Turn) (t : Turn) → bytes_after b (ts ++ 
 after_on b [] t = refl
 after_on b (u ∷ us) t = after_on u.bytes us t
 
-bounded_on : (rules : List Rule) (answers : Answers) (w : World) (b : DiskBytes) (ts : List Turn) (t : Turn)
-    → AreBounded rules answers w b ts
-    → IsBounded rules answers (last_of w (worlds_of ts)) t.event
-    (writes_none (last_of w (worlds_of ts)) t.event t.reply) (is_refusal t.reply.answer) (bytes_after b ts) t.bytes
-    → AreBounded rules answers w b (ts ++ t ∷ [])
-bounded_on rules answers w b [] t are is = (is, tt)
-bounded_on rules answers w b (u ∷ us) t are is = (are.0, bounded_on rules answers u.world u.bytes us t are.1 is)
+bounded_on : (converters : Converters) (w : World) (b : DiskBytes) (ts : List Turn) (t : Turn)
+    → AreBounded converters w b ts
+    → IsBounded converters (last_of w (worlds_of ts)) t.event (Some t.reply) (bytes_after b ts) t.bytes
+    → AreBounded converters w b (ts ++ t ∷ [])
+bounded_on converters w b [] t are is = (is, tt)
+bounded_on converters w b (u ∷ us) t are is = (are.0, bounded_on converters u.world u.bytes us t are.1 is)
 
 same_bytes : (old new : Medium) → IsUnwritten old new → bytes_now new ≡ bytes_now old
 same_bytes old new is = ap₂ (λ (i : Image) (n : ℕ). record { image = i; written = n }) is.0 is.1
 
-module _ (rules : List Rule) (answers : Answers) (entry start : World) (calm : start.doubt ≡ None) where
+module _ (converters : Converters) (old : Medium) where
+  abbrev entry : World
+  entry = world_at old.image
+
+  abbrev start : World
+  start = started_on old
+
   -- the command that was answered, from the last world
   bounded_here : (turns : List Turn) (e : Event) (reply : Reply) (memory memory' : Memory) (doubt : Option Doubt)
-      (old now new : Medium) → Elapses now new
-      → (going : Going rules answers entry start turns memory doubt old now)
-      → Stepped rules answers e reply memory memory' doubt now new
-      → IsBounded rules answers (last_of start (worlds_of turns)) e
-      (writes_none (last_of start (worlds_of turns)) e reply) (is_refusal reply.answer)
-      (bytes_after going.begun turns) (bytes_now new)
-  bounded_here turns e reply memory memory' doubt old now new time going s =
-      subst (λ (w : World). IsBounded rules answers w e (writes_none w e reply) (is_refusal reply.answer)
-      (bytes_after going.begun turns) (bytes_now new))
+      (now new : Medium) → Elapses now new
+      → (going : Going converters old turns doubt (runtime_at memory now))
+      → Stepped converters e reply doubt (runtime_at memory now) (runtime_at memory' new)
+      → IsBounded converters (last_of start (worlds_of turns)) e (Some reply) (bytes_after going.begun turns)
+      (bytes_now new)
+  bounded_here turns e reply memory memory' doubt now new time going s =
+      subst (λ (w : World). IsBounded converters w e (Some reply) (bytes_after going.begun turns) (bytes_now new))
       (sym going.last)
-      (subst (λ (b : DiskBytes). IsBounded rules answers (world_of now.image memory doubt) e
-      (writes_none (world_of now.image memory doubt) e reply) (is_refusal reply.answer) b (bytes_now new)) going.held
-      (record {
+      (subst (λ (b : DiskBytes). IsBounded converters (world_of now.image memory doubt) e (Some reply) b
+      (bytes_now new))
+      going.held (record {
         elsewhere = s.aside.elsewhere;
         place = s.place;
         unwritten = λ none. same_bytes now new (s.unwritten none);
@@ -272,14 +286,14 @@ module _ (rules : List Rule) (answers : Answers) (entry start : World) (calm : s
       }))
 
   -- and one in progress
-  begun_here : (turns : List Turn) (e : Event) (memory : Memory) (doubt : Option Doubt) (old now new : Medium)
-      → Elapses now new → (going : Going rules answers entry start turns memory doubt old now)
-      → Stopped rules answers e memory doubt now new
-      → IsBegunWithin rules answers (last_of start (worlds_of turns)) e (bytes_after going.begun turns) (bytes_now new)
-  begun_here turns e memory doubt old now new time going s =
-      subst (λ (w : World). IsBegunWithin rules answers w e (bytes_after going.begun turns) (bytes_now new))
+  begun_here : (turns : List Turn) (e : Event) (memory : Memory) (doubt : Option Doubt) (now new : Medium)
+      → Elapses now new → (going : Going converters old turns doubt (runtime_at memory now))
+      → Stopped converters e doubt (runtime_at memory now) new
+      → IsBegunWithin converters (last_of start (worlds_of turns)) e (bytes_after going.begun turns) (bytes_now new)
+  begun_here turns e memory doubt now new time going s =
+      subst (λ (w : World). IsBegunWithin converters w e (bytes_after going.begun turns) (bytes_now new))
       (sym going.last)
-      (subst (λ (b : DiskBytes). IsBegunWithin rules answers (world_of now.image memory doubt) e b (bytes_now new))
+      (subst (λ (b : DiskBytes). IsBegunWithin converters (world_of now.image memory doubt) e b (bytes_now new))
       going.held (record {
         elsewhere = s.aside.elsewhere;
         place = s.place;
@@ -291,19 +305,19 @@ module _ (rules : List Rule) (answers : Answers) (entry start : World) (calm : s
       }))
 
   pub goes_on : (turns : List Turn) (e : Event) (reply : Reply) (memory memory' : Memory) (doubt : Option Doubt)
-      (told : Bool) (old now new : Medium) → IsTrue told
-      → IsLawful told new → Elapses now new → Going rules answers entry start turns memory doubt old now
-      → (s : Stepped rules answers e reply memory memory' doubt now new)
-      → Going rules answers entry start (turns ++ turn e reply new (world_of new.image memory' s.doubt') ∷ []) memory'
-      s.doubt' old new
-  goes_on turns e reply memory memory' doubt told old now new tells lawful time going s =
+      (told : Bool) (now new : Medium) → IsTrue told
+      → IsLawful told new → Elapses now new → Going converters old turns doubt (runtime_at memory now)
+      → (s : Stepped converters e reply doubt (runtime_at memory now) (runtime_at memory' new))
+      → Going converters old (turns ++ turn e reply new (world_of new.image memory' s.doubt') ∷ []) s.doubt'
+      (runtime_at memory' new)
+  goes_on turns e reply memory memory' doubt told now new tells lawful time going s =
       let w' : World = world_of new.image memory' s.doubt' in
       let t : Turn = turn e reply new w' in
       record {
         eight = s.eight;
-        follow = follow_on rules answers start turns t going.follow
-            (subst (λ w. StepsTo rules answers w e reply w') (sym going.last)
-            (steps_on rules answers (world_of now.image memory doubt) e reply w' now new s.step));
+        follow = follow_on converters start turns t going.follow
+            (subst (λ w. StepsTo converters w e reply w') (sym going.last)
+            (steps_on converters (world_of now.image memory doubt) e reply w' now new s.step));
         worlds = (
           going.worlds.0,
           subst (λ ws. AllByRecursion IsWorld ws) (sym (worlds_on turns t))
@@ -317,8 +331,9 @@ module _ (rules : List Rule) (answers : Answers) (entry start : World) (calm : s
             (new_case (IsReadSince old now) (IsReadSince old new) doubt s.doubt' (read_on old now new going.time time)
             (subst (λ (w : World). IsCaseOfDoubt (IsReadSince old now) w.doubt) going.last
             (case_last (IsReadSince old now) start (worlds_of turns)
-            (subst (λ d. IsCaseOfDoubt (IsReadSince old now) d) (sym calm) tt) going.cases))
-            (λ d is. ⊎_elim (λ same. inl same) (λ at. inr (read_now told old now new tells lawful going.time time d.case
+            (subst (λ d. IsCaseOfDoubt (IsReadSince old now) d) (sym (start_calm old)) tt) going.cases))
+            (λ d is. ⊎_elim (λ same. inl same)
+            (λ at. inr (read_now told old now new tells lawful going.time time d.case
             at.0 at.1)) (s.case d is))));
         quiet = s.quiet;
         imaged = λ app lt.
@@ -327,7 +342,7 @@ module _ (rules : List Rule) (answers : Answers) (entry start : World) (calm : s
               subst (λ ws. AreImaged app ws) (sym (worlds_on turns t))
                   (imaged_end app (worlds_of turns) w' are.1 (
                     there_imaged app lt new.image memory' s.doubt' s.eight,
-                    side_imaged rules answers app (world_of now.image memory doubt) e reply w' now new
+                    side_imaged converters app (world_of now.image memory doubt) e reply w' now new
                         (subst (λ w. IsWorldImaged app w) going.last (imaged_last app start (worlds_of turns) are.0
                         are.1))
                         s.step,
@@ -337,25 +352,25 @@ module _ (rules : List Rule) (answers : Answers) (entry start : World) (calm : s
             let sound' : AreSoundDoubts app (worlds_of turns ++ w' ∷ []) =
             subst (λ ws. AreSoundDoubts app ws) (worlds_on turns t) sound in
             subst (λ ws. Stayed app entry start ws old new) (sym (worlds_on turns t))
-            (step_stays app entry start (worlds_of turns) w' old now new calm going.time time s.quiet
+            (step_stays app entry start (worlds_of turns) w' old now new (start_calm old) going.time time s.quiet
             (λ d is. ⊎_elim (λ same. inl (ap (λ (w : World). w.doubt) going.last ∙ same)) (λ at. inr at.0)
             (s.case d is)) sound'
             (subst (λ w. StepKeeps app w w' now new) (sym going.last) (s.keeps app lt))
             (going.stayed app lt clean (sound_front app (worlds_of turns) w' sound')));
         begun = going.begun;
         starts = going.starts;
-        bounded = bounded_on rules answers start going.begun turns t going.bounded
-            (bounded_here turns e reply memory memory' doubt old now new time going s);
+        bounded = bounded_on converters start going.begun turns t going.bounded
+            (bounded_here turns e reply memory memory' doubt now new time going s);
         held = sym (after_on going.begun turns t);
         time = elapses_on going.time time;
       }
 
   -- ---- the end of a run in which every command has ended
 
-  disk_of : (turns : List Turn) (memory : Memory) (doubt : Option Doubt) (old now : Medium)
-      → Going rules answers entry start turns memory doubt old now → (app : ℕ) → app < 8
+  disk_of : (turns : List Turn) (memory : Memory) (doubt : Option Doubt) (now : Medium)
+      → Going converters old turns doubt (runtime_at memory now) → (app : ℕ) → app < 8
       → app_at now.image app ≡ disk_at (disks (last_of start (worlds_of turns))) app
-  disk_of turns memory doubt old now going app lt = let less : app < length memory.apps =
+  disk_of turns memory doubt now going app lt = let less : app < length memory.apps =
       omega (arith, lt, going.eight) in
       sym (ap (λ (w : World). disk_at (disks w) app) going.last
       ∙ (disk_there (app_at now.image) 0 memory.apps app less ∙ ap (app_at now.image) (omega arith)))
@@ -370,37 +385,36 @@ module _ (rules : List Rule) (answers : Answers) (entry start : World) (calm : s
 
   -- the start is the first stretch of the run
   from_start : (app : ℕ) (worlds : List World) (next : Disks) (c : Case)
-      → (old : Medium)
       → OrBefore old (λ c. Between app (disks entry) (disks start) c ⊎ IsMomentOf app start worlds next c) c
       → OrBefore old (IsMomentOf app entry (start ∷ worlds) next) c
-  from_start app worlds next c old m = ⊎_elim (λ before. inl before)
-      (λ s. inr (⊎_elim (λ b. inl (subst (λ d. AtMoment app (disks entry) (disks start) d c) (sym calm) b))
+  from_start app worlds next c m = ⊎_elim (λ before. inl before)
+      (λ s. inr (⊎_elim (λ b. inl (subst (λ d. AtMoment app (disks entry) (disks start) d c) (sym (start_calm old)) b))
       (λ x. inr x) s)) m
 
   decided_start : (app : ℕ) → IsDecided app start.doubt
-  decided_start app = subst (λ d. IsDecided app d) (sym calm) tt
+  decided_start app = subst (λ d. IsDecided app d) (sym (start_calm old)) tt
 
-  pub ends_everywhen : AppLaws → (turns : List Turn) (memory : Memory) (doubt : Option Doubt) (old now : Medium)
-      → Going rules answers entry start turns memory doubt old now
-      → Everywhen entry (start ∷ worlds_of turns) (disks (last_of start (worlds_of turns))) old now
-  ends_everywhen laws turns memory doubt old now going = record {
-    always = λ app lt clean sound c s. from_start app (worlds_of turns) (disks (last_of start (worlds_of turns)))
-        c old
+  pub ends_everywhen : AppLaws → (turns : List Turn) (memory : Memory) (doubt : Option Doubt) (now : Medium)
+      → Going converters old turns doubt (runtime_at memory now)
+      → Everywhen (world_at old.image) (started_on old ∷ worlds_of turns)
+      (disks (last_of (started_on old) (worlds_of turns))) old now
+  ends_everywhen laws turns memory doubt now going = record {
+    always = λ app lt clean sound c s. from_start app (worlds_of turns) (disks (last_of start (worlds_of turns))) c
         (end_stays app entry start (worlds_of turns) (disks (last_of start (worlds_of turns))) old now
         (going.stayed app lt clean sound.1) c s);
     at_exit = λ app lt clean sound c at.
         let stayed : Stayed app entry start (worlds_of turns) old now = going.stayed app lt clean sound.1 in
         inr (exit_moment laws app lt (last_of start (worlds_of turns)) (last_of start (worlds_of turns)).doubt now
         stayed.ready.clean
-        (disk_of turns memory doubt old now going app lt) stayed.ready.quiet stayed.calm c at);
+        (disk_of turns memory doubt now going app lt) stayed.ready.quiet stayed.calm c at);
     decided = λ app lt clean sound. (decided_start app, (going.stayed app lt clean sound.1).decided);
   }
 
-  pub ends_settled : (turns : List Turn) (memory : Memory) (doubt : Option Doubt) (old now : Medium)
-      → Going rules answers entry start turns memory doubt old now
-      → IsSettled (last_of start (worlds_of turns)) now
+  pub ends_settled : (turns : List Turn) (memory : Memory) (doubt : Option Doubt) (now : Medium)
+      → Going converters old turns doubt (runtime_at memory now)
+      → IsSettled (last_of (started_on old) (worlds_of turns)) now
   unfolding world_at
-  ends_settled turns memory doubt old now going = record {
+  ends_settled turns memory doubt now going = record {
     world = ap (λ (apps : List Application). record { now = 0; apps = apps; doubt = None })
         (subst (λ n. all_resting (app_at now.image) 0 n ≡ map (λ (a : Application). resting a.disk)
         (with_disk (app_at now.image) 0 memory.apps)) going.eight (rest_there (app_at now.image) 0 memory.apps))
@@ -411,11 +425,12 @@ module _ (rules : List Rule) (answers : Answers) (entry start : World) (calm : s
   -- ---- the end of a run that stopped in a command
 
   pub stops_everywhen : (turns : List Turn) (e : Event) (memory : Memory) (doubt : Option Doubt) (told : Bool)
-      (old now new : Medium) → IsLawful told new → Elapses now new
-      → Going rules answers entry start turns memory doubt old now → (s : Stopped rules answers e memory doubt now new)
-      → Everywhen entry (start ∷ worlds_of turns) s.after old new
-  stops_everywhen turns e memory doubt told old now new lawful time going s = record {
-    always = λ app lt clean sound c at. from_start app (worlds_of turns) s.after c old
+      (now new : Medium) → IsLawful told new → Elapses now new
+      → Going converters old turns doubt (runtime_at memory now)
+      → (s : Stopped converters e doubt (runtime_at memory now) new)
+      → Everywhen (world_at old.image) (started_on old ∷ worlds_of turns) s.after old new
+  stops_everywhen turns e memory doubt told now new lawful time going s = record {
+    always = λ app lt clean sound c at. from_start app (worlds_of turns) s.after c
         (stop_stays app entry start (worlds_of turns) s.after old now new going.time time
         (keeps app lt) (stayed app lt clean sound.1) c at);
     at_exit = λ app lt clean sound c at.
@@ -434,15 +449,10 @@ module _ (rules : List Rule) (answers : Answers) (entry start : World) (calm : s
 
 -- ---- what a run promises of the disk
 
-start_calm : (m : Medium) → (after_start (world_at m.image)).doubt ≡ None
-unfolding world_at
-start_calm m = refl
-
 -- the start is a run without a command
-pub starts_going : (rules : List Rule) (answers : Answers) (memory : Memory) (old new : Medium) → Elapses old new
-    → Starts memory old new
-    → Going rules answers (world_at old.image) (after_start (world_at old.image)) [] memory None old new
-starts_going rules answers memory old new time s = record {
+pub starts_going : (converters : Converters) (memory : Memory) (old new : Medium) → Elapses old new
+    → Starts memory old new → Going converters old [] None (runtime_at memory new)
+starts_going converters memory old new time s = record {
   eight = s.eight;
   follow = tt;
   worlds = (starts_so old.image, tt);
@@ -456,7 +466,7 @@ starts_going rules answers memory old new time s = record {
     ),
     tt,
   );
-  stayed = λ app lt clean sound. start_stays app (world_at old.image) (after_start (world_at old.image)) old new
+  stayed = λ app lt clean sound. start_stays app (world_at old.image) (started_on old) old new
       (start_calm old) (s.keeps.always app lt clean)
       (record { clean = s.clean app lt clean; quiet = λ none. s.quiet });
   begun = bytes_now new;
@@ -473,16 +483,15 @@ starts_going rules answers memory old new time s = record {
 }
 
 -- one command more
-pub steps_going : (rules : List Rule) (answers : Answers) (turns : List Turn) (e : Event) (reply : Reply)
+pub steps_going : (converters : Converters) (turns : List Turn) (e : Event) (reply : Reply)
     (memory memory' : Memory) (doubt : Option Doubt) (told : Bool)
     (old now new : Medium) → IsTrue told → IsLawful told new → Elapses now new
-    → Going rules answers (world_at old.image) (after_start (world_at old.image)) turns memory doubt old now
-    → (s : Stepped rules answers e reply memory memory' doubt now new)
-    → Going rules answers (world_at old.image) (after_start (world_at old.image))
-    (turns ++ turn e reply new (world_of new.image memory' s.doubt') ∷ []) memory' s.doubt' old new
-steps_going rules answers turns e reply memory memory' doubt told old now new tells lawful time going s =
-    goes_on rules answers (world_at old.image) (after_start (world_at old.image)) (start_calm old) turns e reply memory
-    memory' doubt told old now new tells lawful time going s
+    → Going converters old turns doubt (runtime_at memory now)
+    → (s : Stepped converters e reply doubt (runtime_at memory now) (runtime_at memory' new))
+    → Going converters old (turns ++ turn e reply new (world_of new.image memory' s.doubt') ∷ []) s.doubt'
+    (runtime_at memory' new)
+steps_going converters turns e reply memory memory' doubt told old now new tells lawful time going s =
+    goes_on converters old turns e reply memory memory' doubt told now new tells lawful time going s
 
 -- a run that ended in its start
 abbrev NoneReached : List World → Type 0
@@ -492,18 +501,18 @@ entry_imaged : (app : ℕ) → app < 8 → (image : Image) → IsWorldImaged app
 unfolding world_at
 entry_imaged app lt image = ((image, at_entry image app lt), tt)
 
-pub start_disk : AppLaws → (rules : List Rule) (answers : Answers) (ending : Ending) (before after : Option (List ℕ))
+pub start_disk : AppLaws → (converters : Converters) (ending : Ending) (before after : Option (List ℕ))
     (told : Bool) (old new : Medium) → IsLawful told new → Elapses old new
-    → ¬ (HasStarted ending) → StartKeeps old new → DiskSide (record { rules = rules; answers = answers }) ending
+    → ¬ (HasStarted ending) → StartKeeps old new → DiskSide converters ending
     (record { lines = []; all = []; turns = []; before = before; now = after }) old new
-start_disk laws rules answers how before after told old new lawful time open_end keeps = record {
+start_disk laws converters how before after told old new lawful time open_end keeps = record {
   follow = tt;
   worlds = (starts_so old.image, tt);
   cases = tt;
   imaged = λ app lt. tt;
   settled = λ over. absurd (open_end (has_started how over));
   reached = [];
-  next = disks (after_start (world_at old.image));
+  next = disks (started_on old);
   begun = bytes_now new;
   starts = record {
     roots = keeps.roots;
@@ -516,7 +525,8 @@ start_disk laws rules answers how before after told old new lawful time open_end
   progress = starting open_end refl refl refl refl refl refl;
   clean = λ app lt clean calm. begun_clean app lt clean;
   everywhen = record {
-    always = λ app lt clean calm c s. ⊎_elim (λ before. inl before) (λ b. inr (inl b)) (keeps.always app lt clean c s);
+    always = λ app lt clean calm c s. ⊎_elim (λ before. inl before) (λ b. inr (inl b))
+        (keeps.always app lt clean c s);
     at_exit = λ app lt clean calm. left app lt clean;
     decided = λ app lt clean calm. tt;
   };
@@ -524,7 +534,7 @@ start_disk laws rules answers how before after told old new lawful time open_end
   where
     left : (app : ℕ) → app < 8 → IsCleanApp app old.image → (c : Case) → new.now c
         → (NoneReached [] × OnlyReads old new)
-        ⊎ IsMomentOf app (world_at old.image) [] (disks (after_start (world_at old.image))) c
+        ⊎ IsMomentOf app (world_at old.image) [] (disks (started_on old)) c
     left app lt clean c at = ⊎_elim (λ reads. inl (refl, reads)) (λ each. inr (inl (each app lt clean c at)))
         keeps.at_exit
 
@@ -533,45 +543,42 @@ start_disk laws rules answers how before after told old new lawful time open_end
     begun_clean app lt clean (all_ended over) = absurd (open_end (has_started how over))
     begun_clean app lt clean (none_written begun same) = absurd (open_end begun)
     begun_clean app lt clean (sound_reads c now is passes) = exit_clean laws app (world_at old.image) (NoneReached [])
-        (disks (after_start (world_at old.image))) old new (entry_imaged app lt old.image) clean
+        (disks (started_on old)) old new (entry_imaged app lt old.image) clean
         (left app lt clean) c now is passes
 
 -- one where every command has ended
-pub ends_disk : AppLaws → (rules : List Rule) (answers : Answers) (ending : Ending) (lines all : List (List ℕ))
+pub ends_disk : AppLaws → (converters : Converters) (ending : Ending) (lines all : List (List ℕ))
     (turns : List Turn) (before after : Option (List ℕ))
     (memory : Memory) (doubt : Option Doubt) (old now : Medium) → HasStarted ending
-    → Going rules answers (world_at old.image) (after_start (world_at old.image)) turns memory doubt old now
-    → DiskSide (record { rules = rules; answers = answers }) ending
+    → Going converters old turns doubt (runtime_at memory now)
+    → DiskSide converters ending
     (record { lines = lines; all = all; turns = turns; before = before; now = after }) old now
-ends_disk laws rules answers _ lines all turns before after memory doubt old now started_well going = record {
+ends_disk laws converters _ lines all turns before after memory doubt old now started_well going = record {
   follow = going.follow;
   worlds = going.worlds;
   cases = going.cases;
   imaged = going.imaged;
-  settled = λ over. ends_settled rules answers (world_at old.image) (after_start (world_at old.image)) (start_calm old)
-      turns memory doubt old now going;
-  reached = after_start (world_at old.image) ∷ worlds_of turns;
-  next = disks (last_of (after_start (world_at old.image)) (worlds_of turns));
+  settled = λ over. ends_settled converters old turns memory doubt now going;
+  reached = started_on old ∷ worlds_of turns;
+  next = disks (last_of (started_on old) (worlds_of turns));
   begun = going.begun;
   starts = going.starts;
   bounded = going.bounded;
   progress = between started_well refl refl going.held;
   clean = λ app lt clean calm end. (going.stayed app lt clean calm).ready.clean;
-  everywhen = ends_everywhen rules answers (world_at old.image) (after_start (world_at old.image)) (start_calm old) laws
-      turns memory doubt old now going;
+  everywhen = ends_everywhen converters old laws turns memory doubt now going;
 }
 
 -- one that stopped in a command
-pub stops_disk : AppLaws → (rules : List Rule) (answers : Answers) (ending : Ending) (lines all others : List (List ℕ))
+pub stops_disk : AppLaws → (converters : Converters) (ending : Ending) (lines all others : List (List ℕ))
     (text : List ℕ) (turns : List Turn) (before after : Option (List ℕ))
     (e : Event) (memory : Memory) (doubt : Option Doubt) (told : Bool) (old now new : Medium) → IsLawful told new
     → Elapses now new → HasStarted ending
     → ¬ (HasEnded ending) → Appends before after (replies_text turns) → all ≡ lines ++ text ∷ others
-    → IsLine text (line.Event e) → Going rules answers (world_at old.image) (after_start (world_at old.image)) turns
-    memory doubt old now
-    → Stopped rules answers e memory doubt now new → DiskSide (record { rules = rules; answers = answers }) ending
+    → IsLine text (line.Event e) → Going converters old turns doubt (runtime_at memory now)
+    → Stopped converters e doubt (runtime_at memory now) new → DiskSide converters ending
     (record { lines = lines; all = all; turns = turns; before = before; now = after }) old new
-stops_disk laws rules answers ending lines all others text turns before after e memory doubt told old now new lawful
+stops_disk laws converters ending lines all others text turns before after e memory doubt told old now new lawful
     time started_well open_end wrote is_next spelled going s = record {
       follow = going.follow;
       worlds = going.worlds;
@@ -580,7 +587,7 @@ stops_disk laws rules answers ending lines all others text turns before after e 
           going.cases;
       imaged = going.imaged;
       settled = λ over. absurd (open_end over);
-      reached = after_start (world_at old.image) ∷ worlds_of turns;
+      reached = started_on old ∷ worlds_of turns;
       next = s.after;
       begun = going.begun;
       starts = going.starts;
@@ -591,22 +598,19 @@ stops_disk laws rules answers ending lines all others text turns before after e 
         event = e;
         is_next = is_next;
         spelled = spelled;
-        leads = subst (λ w. Leads rules answers w e s.after) (sym going.last) s.leads;
-        bounded = begun_here rules answers (world_at old.image) (after_start (world_at old.image))
-            (start_calm old) turns e
-            memory doubt old now new time going s;
+        leads = subst (λ w. Leads converters w e s.after) (sym going.last) s.leads;
+        bounded = begun_here converters old turns e memory doubt now new time going s;
       });
       clean = λ app lt clean calm. stopped_clean app lt clean calm;
       everywhen = every;
     }
   where
-    every : Everywhen (world_at old.image) (after_start (world_at old.image) ∷ worlds_of turns) s.after old new
-    every = stops_everywhen rules answers (world_at old.image) (after_start (world_at old.image)) (start_calm old)
-        turns e memory doubt told old now new lawful time going s
+    every : Everywhen (world_at old.image) (started_on old ∷ worlds_of turns) s.after old new
+    every = stops_everywhen converters old turns e memory doubt told now new lawful time going s
 
     imaged : (app : ℕ) → app < 8
-        → IsWorldImaged app (last_of (after_start (world_at old.image)) (worlds_of turns))
-    imaged app lt = imaged_last app (after_start (world_at old.image)) (worlds_of turns) (going.imaged app lt).0
+        → IsWorldImaged app (last_of (started_on old) (worlds_of turns))
+    imaged app lt = imaged_last app (started_on old) (worlds_of turns) (going.imaged app lt).0
         (going.imaged app lt).1
 
     stopped_clean : (app : ℕ) → app < 8 → IsCleanApp app old.image → AreSoundDoubts app (worlds_of turns)
@@ -616,7 +620,7 @@ stops_disk laws rules answers ending lines all others text turns before after e 
         subst (λ (i : Image). IsCleanApp app i) (sym (ap (λ (b : DiskBytes). b.image) (same ∙ sym going.held)))
         (going.stayed app lt clean calm).ready.clean
     stopped_clean app lt clean calm (sound_reads c at is passes) = exit_clean laws app
-        (last_of (after_start (world_at old.image)) (worlds_of turns))
-        (NoneReached (after_start (world_at old.image) ∷ worlds_of turns)) s.after old new (imaged app lt) clean
+        (last_of (started_on old) (worlds_of turns))
+        (NoneReached (started_on old ∷ worlds_of turns)) s.after old new (imaged app lt) clean
         (every.at_exit app lt clean
         (subst (λ (d : Option Doubt). IsSoundDoubt app d) (sym (start_calm old)) tt, calm)) c at is passes

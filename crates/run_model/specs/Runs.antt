@@ -11,7 +11,8 @@ use Rattle.command_text.specs.Grammar.{IsLine}
 use Rattle.deploy_laws.specs.Apps.{IsCleanApp}
 use Rattle.deploy_laws.specs.Pieces.{IsSoundApp}
 use Rattle.run_model.specs.Bounds.{AreBounded, IsBegunWithin, StartsWithin, bytes_after}
-use Rattle.run_model.specs.Edges.{Converters, Edges, failures_at}
+use Rattle.run_model.specs.Converters.{Converters}
+use Rattle.run_model.specs.Edges.{Edges, failures_at}
 use Rattle.run_model.specs.Endings.{Ending, device, ending_status, HasStarted, HasEnded, HasCauseOf, EndsBy, IsInput}
 use Rattle.run_model.specs.Lasting.{IsWorld}
 use Rattle.run_model.specs.Lines.{lines_of, Give}
@@ -89,8 +90,8 @@ pub record IsInProgress (converters : Converters) (start : World) (handling : Ha
   pub event : Event
   pub is_next : handling.all ≡ handling.lines ++ text ∷ others
   pub spelled : IsLine text (line.Event event)
-  pub leads : Leads converters.rules converters.answers (last_of start (worlds_of handling.turns)) event next
-  pub bounded : IsBegunWithin converters.rules converters.answers (last_of start (worlds_of handling.turns)) event
+  pub leads : Leads converters (last_of start (worlds_of handling.turns)) event next
+  pub bounded : IsBegunWithin converters (last_of start (worlds_of handling.turns)) event
       (bytes_after begun handling.turns) held
 
 -- how far a run came, through the commands that were answered
@@ -122,7 +123,7 @@ pub data IsSoundEnd (app : ℕ) (ending : Ending) (last : DiskBytes) (new : Medi
 -- what a run promises of a disk whose bytes are modelled
 pub record DiskSide (converters : Converters) (ending : Ending) (handling : Handling) (old new : Medium) : Type 0 where
   -- each reply and each world is the specified one
-  pub follow : Follow converters.rules converters.answers (after_start (world_at old.image)) handling.turns
+  pub follow : Follow converters (after_start (world_at old.image)) handling.turns
   pub worlds : AllByRecursion IsWorld (after_start (world_at old.image) ∷ worlds_of handling.turns)
   -- a doubt has a case of the disk since the start, and what reads then gave
   pub cases : AreCases (IsReadSince old new) (worlds_of handling.turns)
@@ -134,7 +135,7 @@ pub record DiskSide (converters : Converters) (ending : Ending) (handling : Hand
   -- what the start and each command wrote; `begun` are the bytes that the start left, however it ended
   pub begun : DiskBytes
   pub starts : StartsWithin (bytes_now old) begun
-  pub bounded : AreBounded converters.rules converters.answers (after_start (world_at old.image)) begun
+  pub bounded : AreBounded converters (after_start (world_at old.image)) begun
       handling.turns
   pub progress : Progress converters ending (after_start (world_at old.image)) handling
       (record { worlds = reached; next = next; begun = begun; held = bytes_now new })

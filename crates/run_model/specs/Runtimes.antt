@@ -14,7 +14,6 @@ use Rattle.element_state.specs.States.{Opens}
 use Rattle.element_state.specs.Written.{IsWithin, map_cost}
 use Rattle.element_maps.specs.Sessions.{same_map, view_once_synced}
 use Rattle.element_store.specs.Committing.{index_length}
-use Rattle.migrate_fns.specs.Rules.{Rule, Answers}
 use Rattle.command_text.specs.declared.calls.Call.{Call}
 use Rattle.command_text.specs.declared.calls.Call.TheVariants as call
 use Rattle.command_text.specs.declared.calls.Event.{Event}
@@ -25,6 +24,7 @@ use Rattle.command_text.specs.declared.replies.Reply.{Reply}
 use Rattle.deploy_laws.specs.Apps.{App, app_at, IsCleanApp}
 use Rattle.deploy_laws.specs.Places.{IsBeside, IsNoFileOf, root_place}
 use Rattle.run_model.specs.Calls.{session_at}
+use Rattle.run_model.specs.Converters.{Converters}
 use Rattle.run_model.specs.Costs.{roots_cost}
 use Rattle.run_model.specs.Found.{FoundStorage, shape_in}
 use Rattle.run_model.specs.Lasting.{IsWorld}
@@ -49,6 +49,14 @@ pub record Memory : Type 0 where
   pub apps : List Running
   pub in_doubt : Bool
 
+-- the runtime at one moment: what it keeps in memory, and the disk
+pub record RuntimeAt {ℓ} (D : Type ℓ) : Type ℓ where
+  pub memory : Memory
+  pub disk : D
+
+abbrev pub runtime_at {ℓ} : {D : Type ℓ} → Memory → D → RuntimeAt D
+runtime_at memory disk = record { memory = memory; disk = disk }
+
 -- ---- the world
 
 -- the applications from number `app` on: of each what is on the disk, and what is kept in memory
@@ -60,7 +68,12 @@ with_disk disk app (r ∷ rs) = record { disk = disk app; stage = r.stage; sessi
 -- what is on the disk is what its image denotes, and all else is in memory; only the sides of a doubt are in
 -- neither
 abbrev pub world_of : Image → Memory → Option Doubt → World
-world_of image memory doubt = record { now = memory.now; apps = with_disk (app_at image) 0 memory.apps; doubt = doubt }
+world_of image memory doubt = record
+    { now = memory.now; apps = with_disk (app_at image) 0 memory.apps; doubt = doubt }
+
+-- the same of the runtime at one moment
+abbrev pub world_in : RuntimeAt Medium → Option Doubt → World
+world_in at doubt = world_of at.disk.image at.memory doubt
 
 -- there is a doubt exactly where the memory says so
 abbrev pub IsDoubt : Memory → Option Doubt → Type 0
@@ -192,57 +205,57 @@ WrittenBy w e old new = CostsBy w e old.written new.written
 
 -- ---- one command
 
--- A step on this stretch of the disk: in a doubt no byte is written before the sync that is to end it, so one that
--- failed only read.
-abbrev pub StepsOn : List Rule → Answers → World → Event → Reply → World → (old new : Medium) → Type 0
-StepsOn rules answers w e reply w' old new = Step rules answers w e reply w'
-    ⊎ ((SyncFails w e reply w' × OnlyReads old new) ⊎ FailsElsewhere rules answers w e reply w')
+-- A step. In a doubt no byte is written before the sync that is to end it, so that one whose sync failed only read:
+-- `Idle` says so of the disk.
+abbrev pub StepsOn : Converters → World → Event → Reply → World → (Idle : Type 0) → Type 0
+StepsOn converters w e reply w' idle = Step converters w e reply w'
+    ⊎ ((SyncFails w e reply w' × idle) ⊎ FailsElsewhere converters w e reply w')
 
--- A command that was answered: it leads from the world before it to one after it, and keeps each application at every
--- moment. A doubt that is new has a case of the disk, whose image is what reads now give.
-pub record Stepped (rules : List Rule) (answers : Answers) (e : Event) (reply : Reply) (old_memory new_memory : Memory)
-    (doubt : Option Doubt) (old new : Medium) : Type 0 where
-  pub eight : length new_memory.apps ≡ 8
+-- A command that was answered, where the runtime was in this doubt: it leads from the world before it to one after it,
+-- and keeps each application at every moment. A doubt that is new has a case of the disk, whose image is what reads now
+-- give.
+pub record Stepped (converters : Converters) (e : Event) (reply : Reply) (doubt : Option Doubt)
+    (old new : RuntimeAt Medium) : Type 0 where
+  pub eight : length new.memory.apps ≡ 8
   -- the doubt after the command: there is one where the memory says so
   pub doubt' : Option Doubt
-  pub is_doubt : IsDoubt new_memory doubt'
+  pub is_doubt : IsDoubt new.memory doubt'
   -- the command leads from the world before it to the one after it, in which all holds that holds of every world
-  pub step : StepsOn rules answers (world_of old.image old_memory doubt) e reply (world_of new.image new_memory doubt')
-      old new
-  pub world : IsWorld (world_of new.image new_memory doubt')
+  pub step : StepsOn converters (world_in old doubt) e reply (world_in new doubt') (OnlyReads old.disk new.disk)
+  pub world : IsWorld (world_in new doubt')
   -- each application is kept at each moment of the command
-  pub keeps : (app : ℕ) → app < 8 → StepKeeps app (world_of old.image old_memory doubt)
-      (world_of new.image new_memory doubt') old new
+  pub keeps : (app : ℕ) → app < 8 → StepKeeps app (world_in old doubt) (world_in new doubt') old.disk new.disk
   -- a doubt is the one from before, or its case is one of the disk now; without a doubt nothing is pending
-  pub case : (d : Doubt) → doubt' ≡ Some d → (doubt ≡ Some d) ⊎ (new.now d.case × (d.case.left ≡ new.image))
-  pub quiet : doubt' ≡ None → Quiet new
+  pub case : (d : Doubt) → doubt' ≡ Some d
+      → (doubt ≡ Some d) ⊎ (new.disk.now d.case × (d.case.left ≡ new.disk.image))
+  pub quiet : doubt' ≡ None → Quiet new.disk
   -- no file of another application changes, nor one beside those of the storage that the command names
-  pub aside : StaysAside e doubt old new
-  pub place : Spares (IsBesideNamed (world_of old.image old_memory doubt) e) old.image new.image
+  pub aside : StaysAside e doubt old.disk new.disk
+  pub place : Spares (IsBesideNamed (world_in old doubt) e) old.disk.image new.disk.image
   -- a command that only looks, or is refused with no root opened before it, writes no byte; and a sync, a flush or a
   -- close writes no more than what differs may cost
-  pub unwritten : writes_none (world_of old.image old_memory doubt) e reply ≡ true → IsUnwritten old new
-  pub written : WrittenBy (world_of old.image old_memory doubt) e old new
+  pub unwritten : writes_none (world_in old doubt) e reply ≡ true → IsUnwritten old.disk new.disk
+  pub written : WrittenBy (world_in old doubt) e old.disk new.disk
   -- it writes no more than it costs (`call_cost`), and beside slots of the root no file changes but in the places of
   -- the storages that it makes or names
-  pub within : IsCommandWithin rules answers (world_of old.image old_memory doubt) e (bytes_now old) (bytes_now new)
+  pub within : IsCommandWithin converters (world_in old doubt) e (bytes_now old.disk) (bytes_now new.disk)
   -- one that is refused writes no more than the opening of its root, where that is to be opened
   pub refused : is_refusal reply.answer ≡ true
-      → OnlyOpens (world_of old.image old_memory doubt) e (bytes_now old) (bytes_now new)
+      → OnlyOpens (world_in old doubt) e (bytes_now old.disk) (bytes_now new.disk)
   -- the reply that the device failed has its cause in this command
-  pub blamed : IsBlamed old.faults new.faults reply
+  pub blamed : IsBlamed old.disk.faults new.disk.faults reply
 
--- A command for which memory ran out: it is in progress.
-pub record Stopped (rules : List Rule) (answers : Answers) (e : Event) (memory : Memory) (doubt : Option Doubt)
-    (old new : Medium) : Type 0 where
+-- A command for which memory ran out, where the runtime was in this doubt: it is in progress.
+pub record Stopped (converters : Converters) (e : Event) (doubt : Option Doubt) (old : RuntimeAt Medium)
+    (new : Medium) : Type 0 where
   -- what the command leads to on the disk of each application, or what was there before
   pub after : Disks
-  pub leads : Leads rules answers (world_of old.image memory doubt) e after
+  pub leads : Leads converters (world_in old doubt) e after
   -- at each moment each application stands between what was and that
-  pub keeps : (app : ℕ) → app < 8 → StopKeeps app (world_of old.image memory doubt) after old new
+  pub keeps : (app : ℕ) → app < 8 → StopKeeps app (world_in old doubt) after old.disk new
   -- which files it may touch, and how much it may write
-  pub aside : StaysAside e doubt old new
-  pub place : Spares (IsBesideNamed (world_of old.image memory doubt) e) old.image new.image
-  pub unwritten : only_looks (world_of old.image memory doubt) e ≡ true → IsUnwritten old new
-  pub written : WrittenBy (world_of old.image memory doubt) e old new
-  pub within : IsCommandWithin rules answers (world_of old.image memory doubt) e (bytes_now old) (bytes_now new)
+  pub aside : StaysAside e doubt old.disk new
+  pub place : Spares (IsBesideNamed (world_in old doubt) e) old.disk.image new.image
+  pub unwritten : only_looks (world_in old doubt) e ≡ true → IsUnwritten old.disk new
+  pub written : WrittenBy (world_in old doubt) e old.disk new
+  pub within : IsCommandWithin converters (world_in old doubt) e (bytes_now old.disk) (bytes_now new)

@@ -8,7 +8,6 @@ use Rattle.std.specs.Str.{chars, is_utf8}
 use Rattle.per_base.specs.declared.elements.Content.{Content}
 use Rattle.per_base.specs.declared.elements.Content.TheVariants.{Good, Bad}
 use Rattle.per_base.specs.declared.elements.Fresh.{Fresh}
-use Rattle.per_base.specs.declared.elements.Scope.{Scope}
 use Rattle.per_base.specs.declared.elements.Scope.TheVariants as scope
 use Rattle.per_base.specs.declared.elements.StoreKind.TheVariants.{Keys, Files}
 use Rattle.per_base.specs.declared.errors.PerError.{PerError}
@@ -30,7 +29,6 @@ use Rattle.disk_model.specs.Case.{Case}
 use Rattle.element_state.specs.Changes.{committed}
 use Rattle.element_state.specs.Reports.{reports}
 use Rattle.element_state.specs.States.{Opens, Corrupt, fresh_state, mended_view}
-use Rattle.migrate_fns.specs.Rules.{Rule, Answers}
 use Rattle.command_text.specs.declared.calls.Call.{Call}
 use Rattle.command_text.specs.declared.calls.Call.TheVariants as call
 use Rattle.command_text.specs.declared.calls.Event.{Event}
@@ -43,9 +41,10 @@ use Rattle.deploy_laws.specs.Places.{storage_shape}
 use Rattle.deploy_rows.specs.Rows.{InProgress, installing, installed_app, finishing, rolling_back, wiping, offered}
 use Rattle.deploy_rows.specs.Rows.{updated_app}
 use Rattle.deploy_rows.specs.Recovering.{recovering, resetting}
+use Rattle.run_model.specs.Converters.{Converters}
 use Rattle.run_model.specs.Sessions.{on_keys, on_working}
 use Rattle.run_model.specs.Worlds.{Application, World, world_at, update_in, disks, no_app, resting, app_of, with_app}
-use Rattle.run_model.specs.Worlds.{formatted, after_run, after_start}
+use Rattle.run_model.specs.Worlds.{formatted, after_run, after_start, application_at}
 use Rattle.run_model.specs.Calls.{Outcome, answered, concluded, app_step, with_update, with_update_begun, open_step}
 use Rattle.run_model.specs.Calls.{durable}
 use Rattle.run_model.specs.Calls.{beside_update, CallStep, StepBeside}
@@ -66,7 +65,8 @@ given_beside app now r p c (Some e) = answered (answer.Error e) r
 given_beside app now r p c None = given_step app now r p c
 
 abbrev pub outcome_of : (app now : ℕ) → Application → InProgress → Call → Outcome
-outcome_of app now r p c = given_beside app now (root_opened r) p c (beside_update (update_in (root_opened r).stage) c)
+outcome_of app now r p c = given_beside app now (root_opened r) p c
+    (beside_update (update_in (root_opened r).stage) c)
 
 abbrev pub after_outcome : World → (app : ℕ) → Call → Outcome → World
 after_outcome w app c outcome = record (with_app w app outcome.1) {
@@ -105,26 +105,26 @@ begins_update (call.Update text) = true
 begins_update (call.UpdateBegin text) = true
 begins_update other = false
 
-call_is : (rules : List Rule) (answers : Answers) (app now : ℕ) (r : Application) (p : InProgress) (c : Call)
+call_is : (converters : Converters) (app now : ℕ) (r : Application) (p : InProgress) (c : Call)
     → begins_update c ≡ false
-    → CallStep rules answers app now r c (given_step app now r p c)
-call_is rules answers app now r p (call.Update text) calm = absurd (true≢false calm)
-call_is rules answers app now r p (call.UpdateBegin text) calm = absurd (true≢false calm)
-call_is rules answers app now r p other calm = refl
+    → CallStep converters (application_at app now r) c (given_step app now r p c)
+call_is converters app now r p (call.Update text) calm = absurd (true≢false calm)
+call_is converters app now r p (call.UpdateBegin text) calm = absurd (true≢false calm)
+call_is converters app now r p other calm = refl
 
-beside_is : (rules : List Rule) (answers : Answers) (app now : ℕ) (r : Application) (p : InProgress) (c : Call)
+beside_is : (converters : Converters) (app now : ℕ) (r : Application) (p : InProgress) (c : Call)
     (e : Option PerError) → begins_update c ≡ false
-    → StepBeside rules answers app now r c e (given_beside app now r p c e)
-beside_is rules answers app now r p c (Some e) calm = refl
-beside_is rules answers app now r p c None calm = call_is rules answers app now r p c calm
+    → StepBeside converters (application_at app now r) c e (given_beside app now r p c e)
+beside_is converters app now r p c (Some e) calm = refl
+beside_is converters app now r p c None calm = call_is converters app now r p c calm
 
 -- each command of a course is a step of the world, where it begins no update
-pub step_is : (rules : List Rule) (answers : Answers) (p : InProgress) (w : World) (app : ℕ) (c : Call)
+pub step_is : (converters : Converters) (p : InProgress) (w : World) (app : ℕ) (c : Call)
     → begins_update c ≡ false
-    → Step rules answers w (event.App app c) (stepped p w (event.App app c)).0 (stepped p w (event.App app c)).1
-step_is rules answers p w app c calm = (
+    → Step converters w (event.App app c) (stepped p w (event.App app c)).0 (stepped p w (event.App app c)).1
+step_is converters p w app c calm = (
   outcome_of app w.now (app_of w app) p c,
-  beside_is rules answers app w.now (root_opened (app_of w app)) p c
+  beside_is converters app w.now (root_opened (app_of w app)) p c
       (beside_update (update_in (root_opened (app_of w app)).stage) c) calm,
   refl,
   refl,
@@ -140,7 +140,8 @@ with_installed w app now d = with_app w app (resting (installed_app 1 now d))
 
 -- all that is to be computed
 unfoldable pub computed : ℕ
-unfolding digits chars is_utf8 decoded kind_at counted_at kinds_by list_kind_by group_kind_by trees_by committed reports
+unfolding digits chars is_utf8 decoded kind_at counted_at kinds_by list_kind_by group_kind_by trees_by committed
+    reports
     fresh_state mended_view storage_shape installing installed_app finishing rolling_back wiping offered updated_app
     recovering resetting on_keys on_working app_step open_step durable
 computed = 0
@@ -211,7 +212,8 @@ second_run : replies (after_start (after_run (world_after at_first
 unfolding computed
 second_run = refl
 
-second_run_unsynced : replies (after_start (after_run (world_after at_first (on (call.OpenKvs fav) ∷ set_home 9 ∷ []))))
+second_run_unsynced : replies
+    (after_start (after_run (world_after at_first (on (call.OpenKvs fav) ∷ set_home 9 ∷ []))))
     (on (call.OpenKvs fav) ∷ on (call.Get fav home) ∷ [])
     ≡ codes "ok\nvalue u16:513\n"
 unfolding computed
@@ -275,7 +277,14 @@ in_copies content lacking = with_app formatted 0 (resting
         generation = 2;
         lacking = [];
         sole = true;
-        entries = record { name = home; info = None; changed = 2; len = 3; content = content; lacking = lacking } ∷ [];
+        entries = record {
+          name = home;
+          info = None;
+          changed = 2;
+          len = 3;
+          content = content;
+          lacking = lacking;
+        } ∷ [];
       }) [] ∷ [];
     }))
 
@@ -311,19 +320,24 @@ cal = codes "cal"
 abbrev pub map_file : List ℕ
 map_file = codes "map"
 
-abbrev pub file_storage : List ℕ → (maximum m n : ℕ) → Scope → (read_only : Bool) → List ElementData → StorageData
-file_storage name maximum m n s read_only elements = record {
+-- a storage of files of one copy
+abbrev pub file_storage : List ℕ → (maximum : ℕ) → List ElementData → StorageData
+file_storage name maximum elements = record {
   name = name;
   kind = Files;
   minimum = 0;
   maximum = maximum;
   strategy = collection.KeepExisting;
-  read_only = read_only;
-  m = m;
-  n = n;
-  scope = s;
+  read_only = false;
+  m = 1;
+  n = 1;
+  scope = scope.Element;
   elements = elements;
 }
+
+-- in three copies of which two must agree, sealed whole and only read
+abbrev pub sealed_storage : StorageData → StorageData
+sealed_storage s = record s { read_only = true; m = 2; n = 3; scope = scope.Storage }
 
 abbrev pub a_file : List ℕ → List ℕ → ElementData
 a_file name bytes = record { name = name; value_type = None; initial = Some bytes; strategy = None }
@@ -332,14 +346,14 @@ a_file name bytes = record { name = name; value_type = None; initial = Some byte
 abbrev pub a_map : World
 a_map = with_installed formatted 0 0 (record {
   version = 1;
-  storages =
-      file_storage cal 1048576 1 1 scope.Element false (a_file map_file (97 ∷ 98 ∷ 10 ∷ 99 ∷ 100 ∷ []) ∷ []) ∷ [];
+  storages = file_storage cal 1048576 (a_file map_file (97 ∷ 98 ∷ 10 ∷ 99 ∷ 100 ∷ []) ∷ []) ∷ [];
 })
 
 abbrev pub opening : OpenKind → ℕ → Event
 opening k bits = on (call.OpenFile cal map_file k (record { 0 = bits }))
 
-busy_handles : replies a_map (on (call.OpenFiles cal) ∷ opening kind.Read 0 ∷ opening kind.Read 0 ∷ opening kind.Write 0
+busy_handles : replies a_map
+    (on (call.OpenFiles cal) ∷ opening kind.Read 0 ∷ opening kind.Read 0 ∷ opening kind.Write 0
     ∷ on (call.CloseFile cal 1) ∷ on (call.CloseFile cal 2) ∷ opening kind.Write 0
     ∷ opening kind.Read 0 ∷ on (call.Close cal) ∷ [])
     ≡ codes
@@ -374,7 +388,8 @@ whole_files = refl
 
 restoring_files : replies a_map (event.Now 50 ∷ on (call.OpenFiles cal) ∷ on (call.Put cal map_file (0 ∷ []))
     ∷ on (call.ResetFile cal map_file) ∷ opening kind.Read 2 ∷ on (call.HandleSize cal 1)
-    ∷ on (call.Seek cal 1 3) ∷ on (call.ReadAll cal 1) ∷ on (call.CloseFile cal 1) ∷ on (call.RecoverFile cal map_file)
+    ∷ on (call.Seek cal 1 3) ∷ on (call.ReadAll cal 1) ∷ on (call.CloseFile cal 1) ∷ on
+    (call.RecoverFile cal map_file)
     ∷ on (call.Info cal map_file) ∷ on (call.Delete cal map_file)
     ∷ on (call.FileExists cal map_file) ∷ on (call.Close cal) ∷ on (call.ResetStorage cal) ∷ on (call.OpenFiles cal)
     ∷ on (call.Info cal map_file) ∷ [])
@@ -397,11 +412,11 @@ failing w c read = record (with_app w 0 (after_failure (app_of w 0).disk (root_o
       doubt = Some (record { before = disks w; after = disks w; case = read });
     }
 
-failing_is : (rules : List Rule) (answers : Answers) (w : World) (c : Call) (read : Case)
+failing_is : (converters : Converters) (w : World) (c : Call) (read : Case)
     → IsTrue (reaches_device 0 (root_opened (app_of w 0)) w.now c)
     → app_at read.left 0 ≡ (app_of w 0).disk → world_at read.left ≡ after_run (failing w c read)
-    → FailsElsewhere rules answers w (on c) failure (failing w c read)
-failing_is rules answers w c read reaches same there = (
+    → FailsElsewhere converters w (on c) failure (failing w c read)
+failing_is converters w c read reaches same there = (
   after_failure (app_of w 0).disk (root_opened (app_of w 0)) (found_named (root_opened (app_of w 0)) c),
   disks w,
   read,
@@ -449,7 +464,8 @@ opening_syncs : calls_device (app_of (failing at_nine (call.Sync fav) nothing_re
 unfolding computed
 opening_syncs = refl
 
-status_in_doubt : replies (failing at_nine (call.Sync fav) nothing_read) (on call.Status ∷ event.App 1 call.Status ∷ [])
+status_in_doubt : replies (failing at_nine (call.Sync fav) nothing_read)
+    (on call.Status ∷ event.App 1 call.Status ∷ [])
     ≡ codes "status version 1\nstatus absent\n"
 unfolding computed
 status_in_doubt = refl
@@ -595,9 +611,9 @@ navigation = record {
 abbrev pub driving : DeploymentData
 driving = record {
   version = 3;
-  storages = file_storage (codes "calibration") 1048576 2 3 scope.Storage true
-      (a_file (codes "lidar.cal") (10 ∷ 11 ∷ 12 ∷ []) ∷ [])
-      ∷ file_storage (codes "logs") 4194304 1 1 scope.Element false [] ∷ [];
+  storages = sealed_storage
+      (file_storage (codes "calibration") 1048576 (a_file (codes "lidar.cal") (10 ∷ 11 ∷ 12 ∷ []) ∷ []))
+      ∷ file_storage (codes "logs") 4194304 [] ∷ [];
 }
 
 abbrev pub morning : World

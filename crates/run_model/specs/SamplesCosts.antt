@@ -6,19 +6,19 @@ use Rattle.per_base.specs.declared.errors.PerError.TheVariants as error
 use Rattle.disk_model.specs.Place.{IsNoSlot}
 use Rattle.element_state.specs.States.{Corrupt}
 use Rattle.element_state.specs.Written.{map_cost}
-use Rattle.migrate_fns.specs.Rules.{Rule, Answers}
 use Rattle.command_text.specs.declared.calls.Call.{Call}
 use Rattle.command_text.specs.declared.calls.Call.TheVariants as call
 use Rattle.deploy_laws.specs.Apps.{nothing, says_at}
 use Rattle.deploy_laws.specs.Places.{root_place, storage_shape}
 use Rattle.deploy_rows.specs.Costs.{format_cost, greatest_cost, install_cost, manifests_at, root_cost}
 use Rattle.run_model.specs.Bounds.{StartsWithin}
+use Rattle.run_model.specs.Converters.{Converters}
 use Rattle.run_model.specs.Costs.{call_cost, finishing_cost, next_cost, opening_cost, update_cost}
 use Rattle.run_model.specs.Samples.{at_first, at_nine, computed, fav, home, in_copies, on, the_plan, world_after}
 use Rattle.run_model.specs.SamplesDamage.{found_so, in_three}
 use Rattle.run_model.specs.SamplesManifests.{cut_text, favourites_text, manifests_read, second_text}
 use Rattle.run_model.specs.Turns.{DiskBytes}
-use Rattle.run_model.specs.Worlds.{Application, World, app_of, at_rest, to_open}
+use Rattle.run_model.specs.Worlds.{Application, World, app_of, at_rest, to_open, application_at}
 use Rattle.run_model.specs.Writes.{AllNeedNothing, CostsCall, IsBesideCall, IsRootAlone, OpensAtMost}
 
 -- what a call of application 0 costs in this world, whose root keeps these manifests
@@ -51,10 +51,11 @@ unfolding manifests_read
 a_rollback w = refl
 
 -- written twice, it is out of the bound
-finished_once : (rules : List Rule) (answers : Answers) (w : World) (before : ℕ)
-    → ¬ (CostsCall rules answers 0 0 both (app_of w 0) call.Finish before (before + 2 * (3 * (8 + 339 + 88))))
+finished_once : (converters : Converters) (w : World) (before : ℕ)
+    → ¬ (CostsCall converters (application_at 0 0 (app_of w 0)) both call.Finish before
+    (before + 2 * (3 * (8 + 339 + 88))))
 unfolding manifests_read
-finished_once rules answers w before within = absurd (omega (arith, within))
+finished_once converters w before within = absurd (omega (arith, within))
 
 -- a root that is to be opened is written before the call, and one that is open is not
 opened_first : opening_cost both to_open ≡ root_cost both
@@ -78,10 +79,10 @@ unfolding manifests_read
 a_small_install = refl
 
 -- with its root written twice, it is out of the bound
-installed_once : (rules : List Rule) (answers : Answers) (w : World) (before : ℕ)
-    → ¬ (CostsCall rules answers 0 0 [] (app_of w 0) (call.Install favourites_text) before
+installed_once : (converters : Converters) (w : World) (before : ℕ)
+    → ¬ (CostsCall converters (application_at 0 0 (app_of w 0)) [] (call.Install favourites_text) before
     (before + (one_key + 2 * first_root)))
-installed_once rules answers w before within =
+installed_once converters w before within =
     let bounded : before + (one_key + 2 * first_root) ≤ before + (one_key + first_root) =
     subst (λ (most : ℕ). before + (one_key + 2 * first_root) ≤ before + most) a_small_install within in
     absurd (omega (arith, bounded))

@@ -5,7 +5,6 @@ use Rattle.per_base.specs.declared.elements.StoreKind.TheVariants as kinds
 use Rattle.per_base.specs.declared.errors.PerError.{PerError}
 use Rattle.per_base.specs.declared.errors.PerError.TheVariants as error
 use Rattle.disk_model.specs.Case.{Case}
-use Rattle.migrate_fns.specs.Rules.{Rule, Answers}
 use Rattle.command_text.specs.declared.calls.Call.{Call}
 use Rattle.command_text.specs.declared.calls.Call.TheVariants as call
 use Rattle.command_text.specs.declared.calls.Event.{Event}
@@ -14,11 +13,13 @@ use Rattle.command_text.specs.declared.replies.Answer.TheVariants as answer
 use Rattle.command_text.specs.declared.replies.Reply.{Reply}
 use Rattle.deploy_laws.specs.Apps.{App, app_at}
 use Rattle.deploy_rows.specs.Rows.{◌>>=◌, reopened, offered}
+use Rattle.run_model.specs.Converters.{Converters}
 use Rattle.run_model.specs.Found.{FoundStorage, storage_in}
 use Rattle.run_model.specs.Calls.{Outcome, StepBeside, without_session, unless_open, local_on, least_open}
 use Rattle.run_model.specs.Calls.{beside_update, app_step}
 use Rattle.run_model.specs.Worlds.{Application, none_open, to_open, at_rest, is_to_open, update_in, Disks, Doubt, World}
-use Rattle.run_model.specs.Worlds.{world_at, after_run, disks, app_of, with_app, without_doubt}
+use Rattle.run_model.specs.Worlds.{world_at, after_run, disks, app_of, with_app, without_doubt, ApplicationAt}
+use Rattle.run_model.specs.Worlds.{application_at, application_in}
 
 -- ---- the step of an application whose device does not fail
 
@@ -26,11 +27,15 @@ use Rattle.run_model.specs.Worlds.{world_at, after_run, disks, app_of, with_app,
 abbrev pub root_opened : Application → Application
 root_opened r = cond (is_to_open r.stage) (record r { disk = reopened r.disk; stage = at_rest }) r
 
--- A call of application `app` at the moment now may have this outcome, a reply and the application after it, where no
--- device fails: its root is opened first where it is to be, and beside an update in progress most calls are refused.
-abbrev pub AppStep : List Rule → Answers → (app now : ℕ) → Application → Call → Outcome → Type 0
-AppStep rules answers app now r c outcome = StepBeside rules answers app now (root_opened r) c
-    (beside_update (update_in (root_opened r).stage) c) outcome
+-- the same of one at a moment
+abbrev pub with_root_opened : ApplicationAt → ApplicationAt
+with_root_opened at = application_at at.app at.now (root_opened at.application)
+
+-- A call of an application may have this outcome, a reply and the application after it, where no device fails: its root
+-- is opened first where it is to be, and beside an update in progress most calls are refused.
+abbrev pub AppStep : Converters → ApplicationAt → Call → Outcome → Type 0
+AppStep converters at c outcome = StepBeside converters (with_root_opened at) c
+    (beside_update (update_in (root_opened at.application).stage) c) outcome
 
 -- ---- which commands call the device
 
@@ -54,11 +59,11 @@ doubt_after false doubt = doubt
 -- ---- an ordinary step
 
 -- The command may take the world w to w' with this reply, where no device fails; all other applications stay.
-abbrev pub Step : List Rule → Answers → World → Event → Reply → World → Type 0
-Step rules answers w (event.Now t) reply w' = (reply ≡ record { reports = []; answer = answer.Done })
+abbrev pub Step : Converters → World → Event → Reply → World → Type 0
+Step converters w (event.Now t) reply w' = (reply ≡ record { reports = []; answer = answer.Done })
     × (w' ≡ record w { now = t })
-Step rules answers w (event.App app c) reply w' = (outcome : Outcome)
-    × AppStep rules answers app w.now (app_of w app) c outcome × (reply ≡ outcome.0)
+Step converters w (event.App app c) reply w' = (outcome : Outcome)
+    × AppStep converters (application_in w app) c outcome × (reply ≡ outcome.0)
     × (w' ≡ record (with_app w app outcome.1) { doubt = doubt_after (calls_device (app_of w app) c) w.doubt })
 
 -- ---- a device that fails
@@ -116,16 +121,16 @@ FailsAs app now a r c r' = (IsTrue (is_to_open r.stage) × (r' ≡ after_failure
     × (r' ≡ after_failure a (root_opened r) (found_named (root_opened r) c)))
 
 -- `ds` may be what is on the disk once a command in progress has ended: what it leads to, or what was there before
-abbrev pub Leads : List Rule → Answers → World → Event → Disks → Type 0
-Leads rules answers w e ds = (ds ≡ disks w) ⊎ ((reply : Reply) × (w' : World)
-    × Step rules answers (without_doubt w) e reply w' × (ds ≡ disks w'))
+abbrev pub Leads : Converters → World → Event → Disks → Type 0
+Leads converters w e ds = (ds ≡ disks w) ⊎ ((reply : Reply) × (w' : World)
+    × Step converters (without_doubt w) e reply w' × (ds ≡ disks w'))
 
 -- The device failed elsewhere. The doubt is between what was on the disk before and what the command leads to, with a
 -- case of the disk whose image is what reads then give; what is on the disk is what that image denotes.
-abbrev pub FailsElsewhere : List Rule → Answers → World → Event → Reply → World → Type 0
-FailsElsewhere rules answers w (event.Now t) reply w' = ⊥
-FailsElsewhere rules answers w (event.App app c) reply w' = (r' : Application) × (after : Disks) × (read : Case)
-    × FailsAs app w.now (app_at read.left app) (app_of w app) c r' × Leads rules answers w (event.App app c) after
+abbrev pub FailsElsewhere : Converters → World → Event → Reply → World → Type 0
+FailsElsewhere converters w (event.Now t) reply w' = ⊥
+FailsElsewhere converters w (event.App app c) reply w' = (r' : Application) × (after : Disks) × (read : Case)
+    × FailsAs app w.now (app_at read.left app) (app_of w app) c r' × Leads converters w (event.App app c) after
     × (reply ≡ failure)
     × (w' ≡ record (with_app w app r') { doubt = Some (record { before = disks w; after = after; case = read }) })
     × (world_at read.left ≡ after_run w')
@@ -133,6 +138,6 @@ FailsElsewhere rules answers w (event.App app c) reply w' = (r' : Application) �
 -- ---- a step
 
 -- The command is answered so, and leads there: as an ordinary step, or as one whose device failed.
-abbrev pub StepsTo : List Rule → Answers → World → Event → Reply → World → Type 0
-StepsTo rules answers w e reply w' = Step rules answers w e reply w'
-    ⊎ (SyncFails w e reply w' ⊎ FailsElsewhere rules answers w e reply w')
+abbrev pub StepsTo : Converters → World → Event → Reply → World → Type 0
+StepsTo converters w e reply w' = Step converters w e reply w'
+    ⊎ (SyncFails w e reply w' ⊎ FailsElsewhere converters w e reply w')

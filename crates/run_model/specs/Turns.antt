@@ -5,11 +5,11 @@ use Rattle.disk_model.specs.Image.{Image}
 use Rattle.disk_model.specs.Medium.{Medium}
 use Rattle.per_base.specs.Causes.{Rose}
 use Rattle.per_base.specs.declared.errors.PerError.TheVariants as error
-use Rattle.migrate_fns.specs.Rules.{Rule, Answers}
 use Rattle.command_text.specs.declared.calls.Event.{Event}
 use Rattle.command_text.specs.declared.replies.Answer.TheVariants as answer
 use Rattle.command_text.specs.declared.replies.Reply.{Reply}
 use Rattle.command_text.specs.Replies.{reply_text}
+use Rattle.run_model.specs.Converters.{Converters}
 use Rattle.run_model.specs.Steps.{StepsTo}
 use Rattle.run_model.specs.Worlds.{World}
 
@@ -53,9 +53,9 @@ abbrev pub replies_text : List Turn → List ℕ
 replies_text turns = flat_map reply_text (replies_of turns)
 
 -- each command leads from the world before it to the world after it
-abbrev pub Follow : List Rule → Answers → World → List Turn → Type 0
-Follow rules answers w [] = ⊤
-Follow rules answers w (t ∷ ts) = StepsTo rules answers w t.event t.reply t.world × Follow rules answers t.world ts
+abbrev pub Follow : Converters → World → List Turn → Type 0
+Follow converters w [] = ⊤
+Follow converters w (t ∷ ts) = StepsTo converters w t.event t.reply t.world × Follow converters t.world ts
 
 -- a command is answered that the device failed where the count of failures rose in it, and only there
 pub record IsBlamed (before now : ℕ) (reply : Reply) : Type 0 where

@@ -87,6 +87,19 @@ or_idle (Some a) = a
 abbrev pub app_of : World → ℕ → Application
 app_of w app = or_idle (slice_get w.apps app)
 
+-- an application at one moment: its number, the moment in seconds, and what it is then
+pub record ApplicationAt : Type 0 where
+  pub app : ℕ
+  pub now : ℕ
+  pub application : Application
+
+abbrev pub application_at : (app now : ℕ) → Application → ApplicationAt
+application_at app now r = record { app = app; now = now; application = r }
+
+-- the application of this number, at the moment of the world
+abbrev pub application_in : World → ℕ → ApplicationAt
+application_in w app = application_at app w.now (app_of w app)
+
 -- the world with this application under this number
 abbrev pub with_app : World → ℕ → Application → World
 with_app w app a = record w { apps = slice_set w.apps app a }

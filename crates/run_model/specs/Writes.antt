@@ -8,7 +8,6 @@ use Rattle.disk_model.specs.Image.{Image}
 use Rattle.disk_model.specs.Place.{IsNoSlot, IsOutside}
 use Rattle.element_state.specs.declared.shapes.Shape.{Shape}
 use Rattle.guarded_cell.specs.Register.{IsAlone}
-use Rattle.migrate_fns.specs.Rules.{Rule, Answers}
 use Rattle.command_text.specs.declared.calls.Call.{Call}
 use Rattle.command_text.specs.declared.calls.Call.TheVariants as call
 use Rattle.command_text.specs.declared.calls.Event.{Event}
@@ -18,11 +17,12 @@ use Rattle.deploy_laws.specs.Places.{IsBeside, root_place, shapes_from}
 use Rattle.deploy_rows.specs.Costs.{manifests_at, storages_said}
 use Rattle.deploy_rows.specs.Rows.{BeginsUpdate, InProgress}
 use Rattle.run_model.specs.Calls.{least_open}
+use Rattle.run_model.specs.Converters.{Converters}
 use Rattle.run_model.specs.Costs.{call_cost, opening_cost, update_cost}
 use Rattle.run_model.specs.Found.{FoundStorage}
 use Rattle.run_model.specs.Steps.{device_storage, found_named}
 use Rattle.run_model.specs.Turns.{DiskBytes}
-use Rattle.run_model.specs.Worlds.{Application, Stage, World, app_of, update_in}
+use Rattle.run_model.specs.Worlds.{Application, Stage, World, app_of, update_in, ApplicationAt, application_in}
 
 -- ---- roots that need nothing
 
@@ -54,19 +54,18 @@ LeavesRoots old new = (app : ℕ) → app < 8 → NeedsNothing old app → Spare
 -- ---- bytes
 
 -- an update writes nothing, or no more than it costs with the contents that it may begin with
-abbrev pub CostsUpdate : List Rule → Answers → (now : ℕ) → (kept : List (List ℕ)) → Application → List ℕ
-    → (before after : ℕ) → Type 0
-CostsUpdate rules answers now kept r manifest before after = (after ≤ before)
-    ⊎ ((p : InProgress) × BeginsUpdate rules answers now (least_open r) manifest r.disk (Ok p)
+abbrev pub CostsUpdate : Converters → ApplicationAt → (kept : List (List ℕ)) → List ℕ → (before after : ℕ) → Type 0
+CostsUpdate converters at kept manifest before after = (after ≤ before)
+    ⊎ ((p : InProgress) × BeginsUpdate converters.rules converters.answers at.now (least_open at.application) manifest
+    at.application.disk (Ok p)
     × (after ≤ before + update_cost kept manifest p))
 
--- No more is written than a call costs at the moment `now`, of an application whose root is open and keeps these
--- manifests. What costs nothing writes nothing.
-abbrev pub CostsCall : List Rule → Answers → (app now : ℕ) → (kept : List (List ℕ)) → Application → Call
-    → (before after : ℕ) → Type 0
-CostsCall rules answers app now kept r (call.Update manifest) before after =
-    CostsUpdate rules answers now kept r manifest before after
-CostsCall rules answers app now kept r other before after = after ≤ before + call_cost app now kept r other
+-- No more is written than a call costs, of an application whose root is open and keeps these manifests. What costs
+-- nothing writes nothing.
+abbrev pub CostsCall : Converters → ApplicationAt → (kept : List (List ℕ)) → Call → (before after : ℕ) → Type 0
+CostsCall converters at kept (call.Update manifest) before after = CostsUpdate converters at kept manifest before
+    after
+CostsCall converters at kept other before after = after ≤ before + call_cost at.app at.now kept at.application other
 
 -- ---- files
 
@@ -108,21 +107,19 @@ IsBesideCall app r c file = IsNoSlot (root_place app) file × IsBesidePlaces app
 
 -- ---- both
 
--- What a call on application `r` wrote, and which files it may have changed, also where its root was opened first: the
+-- What a call on an application wrote, and which files it may have changed, also where its root was opened first: the
 -- root may then have been written once for that, and is not where it needs nothing (`already`).
-pub record IsCallWithin (rules : List Rule) (answers : Answers) (app now : ℕ) (r : Application) (c : Call)
-    (old new : DiskBytes) : Type 0 where
-  pub costs : CostsCall rules answers app now (manifests_at old.image app) r c
-      (old.written + opening_cost (manifests_at old.image app) r.stage) new.written
-  pub already : NeedsNothing old.image app
-      → CostsCall rules answers app now (manifests_at old.image app) r c old.written new.written
-  pub files : Spares (IsBesideCall app r c) old.image new.image
+pub record IsCallWithin (converters : Converters) (at : ApplicationAt) (c : Call) (old new : DiskBytes) : Type 0 where
+  pub costs : CostsCall converters at (manifests_at old.image at.app) c
+      (old.written + opening_cost (manifests_at old.image at.app) at.application.stage) new.written
+  pub already : NeedsNothing old.image at.app
+      → CostsCall converters at (manifests_at old.image at.app) c old.written new.written
+  pub files : Spares (IsBesideCall at.app at.application c) old.image new.image
 
 -- the same of a command
-abbrev pub IsCommandWithin : List Rule → Answers → World → Event → (old new : DiskBytes) → Type 0
-IsCommandWithin rules answers w (event.Now t) old new = ⊤
-IsCommandWithin rules answers w (event.App app c) old new =
-    IsCallWithin rules answers app w.now (app_of w app) c old new
+abbrev pub IsCommandWithin : Converters → World → Event → (old new : DiskBytes) → Type 0
+IsCommandWithin converters w (event.Now t) old new = ⊤
+IsCommandWithin converters w (event.App app c) old new = IsCallWithin converters (application_in w app) c old new
 
 -- ---- a refused command
 

@@ -1,12 +1,12 @@
 //! The laws, for the proofs of callers: none of these functions does anything when it runs.
 //!
-//! `migrations` are the stored converters, of which a law takes which they are (`rules_of`) and what they may answer
-//! (`answers_of`). `old`, `now` and `new` are a disk at moments one after another, of which a law takes what the model
-//! knows at each (`D.medium`).
+//! `migrations` are the stored converters, of which a law takes which they are and what they may answer
+//! (`converters_of`). `old`, `now` and `new` are a disk at moments one after another, of which a law takes what the
+//! model knows at each (`D.medium`).
 
 ghost use Rattle.std.specs.Prelude.{IsTrue};
-ghost use Rattle.migrate_fns.specs.Stored.{answers_of, rules_of};
 ghost use Rattle.run_model.specs.AppLaws.{AppLaws};
+ghost use Rattle.run_model.specs.Converters.{converters_of};
 ghost use Rattle.run_model.specs.Laws.{AlikeLaw, AllOpenedLaw, AnswersLastLaw, BlamedLaw, CallFailsLaw, CallKeepsLaw};
 ghost use Rattle.run_model.specs.Laws.{DoubtStaysLaw, FailedSyncKeepsLaw, FailedSyncLastsLaw, FailureKeepsLaw};
 ghost use Rattle.run_model.specs.Laws.{
@@ -45,30 +45,30 @@ pub fn applications_stand()
 /// with no device failing, it can have in the other, leading the application to the same; and every other application
 /// stays as it was, however a command is answered.
 pub fn answers_are_alike(migrations: &Migrations)
-    ensures alike { AlikeLaw (rules_of migrations.now) (answers_of migrations.now) }
-    ensures others { OthersStayLaw (rules_of migrations.now) (answers_of migrations.now) }
+    ensures alike { AlikeLaw (converters_of migrations.now) }
+    ensures others { OthersStayLaw (converters_of migrations.now) }
 {}
 
 /// Nothing but a sync ends a doubt, and a command on a storage that failed at the device ends its session.
 pub fn failures_end_sessions(migrations: &Migrations)
-    ensures doubt { DoubtStaysLaw (rules_of migrations.now) (answers_of migrations.now) }
-    ensures session { SessionEndsLaw (rules_of migrations.now) (answers_of migrations.now) }
+    ensures doubt { DoubtStaysLaw (converters_of migrations.now) }
+    ensures session { SessionEndsLaw (converters_of migrations.now) }
 {}
 
 /// A command that is answered with no device failing keeps what holds of every world: what an open session has as
 /// synchronised is what its storage holds, with no other text beside it, and no session is open while a root is to be
 /// opened again or an update is in progress. So does setting the moment.
 pub fn answers_keep_worlds(migrations: &Migrations)
-    ensures now { NowLastsLaw (rules_of migrations.now) (answers_of migrations.now) }
-    ensures answered { AnswersLastLaw (rules_of migrations.now) (answers_of migrations.now) }
+    ensures now { NowLastsLaw (converters_of migrations.now) }
+    ensures answered { AnswersLastLaw (converters_of migrations.now) }
 {}
 
 /// A command whose device failed keeps what holds of every world, too: in the sync that ends a doubt, in a call that
 /// names no storage, and in one on a storage, whose state alone may be another than what was there before.
 pub fn failures_keep_worlds(migrations: &Migrations)
     ensures sync { FailedSyncLastsLaw }
-    ensures call { FailureLastsLaw (rules_of migrations.now) (answers_of migrations.now) }
-    ensures storage { StorageFailureLastsLaw (rules_of migrations.now) (answers_of migrations.now) }
+    ensures call { FailureLastsLaw (converters_of migrations.now) }
+    ensures storage { StorageFailureLastsLaw (converters_of migrations.now) }
 {}
 
 /// An application of which one storage is in another state counts as later (`IsLater`): its root says the same, and it
@@ -129,9 +129,9 @@ pub fn causes_add_up()
 
 /// A start that ended is a run without a command, and one that did not is a run that ended there.
 pub fn a_run_begins<D: Disk>(migrations: &Migrations, old: &D, new: &D)
-    ensures begins { RunBeginsLaw (rules_of migrations.now) (answers_of migrations.now) (D.medium old.now)
+    ensures begins { RunBeginsLaw (converters_of migrations.now) (D.medium old.now)
         (D.medium new.now) }
-    ensures stops { StartStopsLaw (rules_of migrations.now) (answers_of migrations.now) (D.medium old.now)
+    ensures stops { StartStopsLaw (converters_of migrations.now) (D.medium old.now)
         (D.medium new.now) }
 {
     applications_stand();
@@ -140,7 +140,7 @@ pub fn a_run_begins<D: Disk>(migrations: &Migrations, old: &D, new: &D)
 /// A run from `old` to `now`, and then a command that is answered, from `now` to `new`, are a run of one turn more,
 /// over a disk whose bytes are modelled (`D.told`).
 pub fn a_run_goes_on<D: Disk>(migrations: &Migrations, old: &D, now: &D, new: &D)
-    ensures { IsTrue D.told → RunGoesOnLaw (rules_of migrations.now) (answers_of migrations.now) (D.medium old.now)
+    ensures { IsTrue D.told → RunGoesOnLaw (converters_of migrations.now) (D.medium old.now)
         (D.medium now.now) (D.medium new.now) }
 {}
 
@@ -148,9 +148,9 @@ pub fn a_run_goes_on<D: Disk>(migrations: &Migrations, old: &D, now: &D, new: &D
 /// states of one of the pairs that its life keeps; and so it does across each power loss, also with copies counted by
 /// pieces (`onward`).
 pub fn a_life_goes_on<D: Disk>(migrations: &Migrations)
-    ensures goes_on { LifeLaw D.medium (rules_of migrations.now) (answers_of migrations.now) }
-    ensures stops { LifeStopsLaw D.medium (rules_of migrations.now) (answers_of migrations.now) }
-    ensures onward { LifeOnwardLaw D.medium (rules_of migrations.now) (answers_of migrations.now) }
+    ensures goes_on { LifeLaw D.medium (converters_of migrations.now) }
+    ensures stops { LifeStopsLaw D.medium (converters_of migrations.now) }
+    ensures onward { LifeOnwardLaw D.medium (converters_of migrations.now) }
 {
     applications_stand();
     damage_is_counted_by_pieces();
@@ -158,14 +158,14 @@ pub fn a_life_goes_on<D: Disk>(migrations: &Migrations)
 
 /// Where every command of a run has ended, all holds that a run promises of the disk (`DiskSide`).
 pub fn a_run_ends<D: Disk>(migrations: &Migrations, old: &D, now: &D)
-    ensures { RunEndsLaw (rules_of migrations.now) (answers_of migrations.now) (D.medium old.now) (D.medium now.now) }
+    ensures { RunEndsLaw (converters_of migrations.now) (D.medium old.now) (D.medium now.now) }
 {
     applications_stand();
 }
 
 /// All that a run promises of the disk holds also where the command of the next line is in progress.
 pub fn a_run_stops<D: Disk>(migrations: &Migrations, old: &D, now: &D, new: &D)
-    ensures { RunStopsLaw (rules_of migrations.now) (answers_of migrations.now) (D.medium old.now) (D.medium now.now)
+    ensures { RunStopsLaw (converters_of migrations.now) (D.medium old.now) (D.medium now.now)
         (D.medium new.now) }
 {
     applications_stand();

@@ -1,12 +1,11 @@
 -- The arms of a call: one that is refused beside an update, the status, the abort, and those that come to an
 -- application at rest.
-use Rattle.std.proofs.Common.{◌≡◌, ◌≢◌, ◌∙◌, ℕ, List, Bool, true, false, cond, Option, Some, None}
+use Rattle.std.proofs.Common.{◌≡◌, ◌≢◌, ◌∙◌, ℕ, Bool, true, false, cond, Option, Some, None}
 use Rattle.std.proofs.Common.{Ok, refl, sym, ap, subst, true≢false}
 use Rattle.per_base.specs.declared.errors.Holder.TheVariants as holder
 use Rattle.per_base.specs.declared.errors.PerError.{PerError}
 use Rattle.per_base.specs.declared.errors.PerError.TheVariants as error
 use Rattle.disk_model.specs.Medium.{IsLawful, Medium}
-use Rattle.migrate_fns.specs.Rules.{Answers, Rule}
 use Rattle.command_text.specs.declared.calls.Call.{Call}
 use Rattle.command_text.specs.declared.calls.Call.TheVariants as call
 use Rattle.command_text.specs.declared.replies.Answer.TheVariants as answer
@@ -22,7 +21,8 @@ use Rattle.deploy_rows.specs.Rows.{InProgress}
 use Rattle.run_model.specs.Calls.{StepBeside, app_step, beside_update, goes_beside}
 use Rattle.run_model.specs.Calls.{concluded}
 use Rattle.run_model.specs.Calls.{status_step}
-use Rattle.run_model.specs.Worlds.{Application}
+use Rattle.run_model.specs.Converters.{Converters}
+use Rattle.run_model.specs.Worlds.{Application, application_at}
 use Rattle.run_model.specs.Worlds as worlds
 use Rattle.per_runtime.specs.declared.application.running.Running.{Running}
 use Rattle.per_runtime.specs.declared.application.running.Stage.{Stage}
@@ -48,17 +48,19 @@ busy_plain None c e refused = absurd cc
 busy_plain (Some p) c e refused = busy_by (goes_beside c) (error.ResourceBusy (holder.Update p.deployment.version)) e
     (record { sound = λ x. cc; text = refl }) refused
 
-module _ (told : Bool) (rules : List Rule) (answers : Answers) (now : ℕ) (c : Call) (s : Running) (m : Medium)
+module _ (told : Bool) (converters : Converters) (now : ℕ) (c : Call) (s : Running) (m : Medium)
     (lawful : IsLawful told m) (untouched : UntouchedAppLaw) (Untouched : Type 0) (same : Untouched)
     (is : IsRunning told m.image s) where
-  pub busy_promises : (e : PerError) → beside_update (worlds.update_in (stage_in s.stage)) c ≡ Some e → (reply : Reply)
+  pub busy_promises : (e : PerError) → beside_update (worlds.update_in (stage_in s.stage)) c ≡ Some e
+      → (reply : Reply)
       → reply ≡ reply_with (answer.Error e)
-      → Promises told rules answers now c s s Untouched m m (Ok reply)
+      → Promises told converters now c s s Untouched m m (Ok reply)
   busy_promises e refused reply is_reply = subst (λ (x : Reply).
-      Promises told rules answers now c s s Untouched m m (Ok x)) (sym is_reply)
-      (idle_promises told rules answers now c s m lawful untouched Untouched same is s.stage
+      Promises told converters now c s s Untouched m m (Ok x)) (sym is_reply)
+      (idle_promises told converters now c s m lawful untouched Untouched same is s.stage
       (reply_with (answer.Error e)) is
-      (λ tells. subst (λ (x : Option PerError). StepBeside rules answers s.app now (application m.image s) c x
+      (λ tells. subst (λ (x : Option PerError). StepBeside converters
+      (application_at s.app now (application m.image s)) c x
       (reply_with (answer.Error e), application m.image s)) (sym refused) refl)
       (busy_plain (worlds.update_in (stage_in s.stage)) c e refused).sound
       (busy_plain (worlds.update_in (stage_in s.stage)) c e refused).text)
@@ -85,25 +87,25 @@ beside_goes None c goes = refl
 beside_goes (Some p) c goes = ap (λ (b : Bool). cond b None
     (Some (error.ResourceBusy (holder.Update p.deployment.version)))) goes
 
-module _ (told : Bool) (rules : List Rule) (answers : Answers) (now : ℕ) (s : Running) (m : Medium)
+module _ (told : Bool) (converters : Converters) (now : ℕ) (s : Running) (m : Medium)
     (lawful : IsLawful told m) (untouched : UntouchedAppLaw) (Untouched : Type 0) (same : Untouched)
     (is : IsRunning told m.image s) (opened : worlds.is_to_open (stage_in s.stage) ≡ false)
     (in_use : RootInUseLaw) where
-  status_has : (r : Application) → HasRow rules answers s.app now call.Status r (says_status r.disk.says, r)
+  status_has : (r : Application) → HasRow converters s.app now call.Status r (says_status r.disk.says, r)
   unfolding app_step
-  status_has r = subst (λ (x : Option PerError). StepBeside rules answers s.app now r call.Status x
+  status_has r = subst (λ (x : Option PerError). StepBeside converters (application_at s.app now r) call.Status x
       (says_status r.disk.says, r)) (sym (beside_goes (worlds.update_in r.stage) call.Status refl))
       (status_row r r.disk.says)
 
   pub status_promises : (reply : Reply) → reply ≡ says_status (root_says (stage_root s.stage))
-      → Promises told rules answers now call.Status s s Untouched m m (Ok reply)
+      → Promises told converters now call.Status s s Untouched m m (Ok reply)
   status_promises reply is_reply =
       let says = root_says (stage_root s.stage) in
-      subst (λ (x : Reply). Promises told rules answers now call.Status s s Untouched m m (Ok x)) (sym is_reply)
-      (idle_promises told rules answers now call.Status s m lawful untouched Untouched same is s.stage
+      subst (λ (x : Reply). Promises told converters now call.Status s s Untouched m m (Ok x)) (sym is_reply)
+      (idle_promises told converters now call.Status s m lawful untouched Untouched same is s.stage
       (says_status says)
       is
-      (λ tells. subst (λ (x : Says). HasRow rules answers s.app now call.Status (application m.image s)
+      (λ tells. subst (λ (x : Says). HasRow converters s.app now call.Status (application m.image s)
       (says_status x, application m.image s))
       (says_in_use in_use told m.image s.app (stage_root s.stage)
       (root_at_in told m.image s.app s.slots s.stage opened is.stage_at) tells)
@@ -113,19 +115,19 @@ module _ (told : Bool) (rules : List Rule) (answers : Answers) (now : ℕ) (s : 
   -- ---- the abort
 
   abort_by : (staged : Option Staged) → staged_in s.stage ≡ staged → (after' : Running) (reply : Reply)
-      → Aborts staged s after' reply → Promises told rules answers now call.UpdateAbort s after' Untouched m m
+      → Aborts staged s after' reply → Promises told converters now call.UpdateAbort s after' Untouched m m
       (Ok reply)
-  abort_by None none after' reply aborts = without_promises told rules answers now call.UpdateAbort s m lawful untouched
+  abort_by None none after' reply aborts = without_promises told converters now call.UpdateAbort s m lawful untouched
       Untouched same is opened none in_use
-      (λ r rests. abort_refused_row rules answers s.app now r rests) after' aborts.0 reply aborts.1
+      (λ r rests. abort_refused_row converters s.app now r rests) after' aborts.0 reply aborts.1
   abort_by (Some t) some after' reply aborts =
       let stage_is = an_update s.stage t some in
       let at = staged_at told m.image s.app s.slots s.stage t stage_is is.stage_at in
-      subst (λ (x : Running). Promises told rules answers now call.UpdateAbort s x Untouched m m (Ok reply))
+      subst (λ (x : Running). Promises told converters now call.UpdateAbort s x Untouched m m (Ok reply))
       (sym aborts.0)
-      (subst (λ (x : Reply). Promises told rules answers now call.UpdateAbort s
+      (subst (λ (x : Reply). Promises told converters now call.UpdateAbort s
       (record s { stage = AtRest (staged_root t) }) Untouched m m (Ok x)) (sym aborts.1)
-      (idle_promises told rules answers now call.UpdateAbort s m lawful untouched Untouched same is
+      (idle_promises told converters now call.UpdateAbort s m lawful untouched Untouched same is
       (AtRest (staged_root t))
       (reply_of None)
       (record {
@@ -136,14 +138,14 @@ module _ (told : Bool) (rules : List Rule) (answers : Answers) (now : ℕ) (s : 
           open_on = open_by_none told m.image s.app (root_says (staged_root t)) s.slots at.1;
         };
       })
-      (λ tells. subst (λ (x : Running). HasRow rules answers s.app now call.UpdateAbort (application m.image x)
+      (λ tells. subst (λ (x : Running). HasRow converters s.app now call.UpdateAbort (application m.image x)
       (reply_of None, application m.image (record s { stage = AtRest (staged_root t) }))) (update_back s t stage_is)
-      (abort_row told rules answers now s t m m Untouched at.0 is.below at.1 in_use tells
+      (abort_row told converters now s t m m Untouched at.0 is.below at.1 in_use tells
       (reply_of None, application m.image (record s { stage = AtRest (staged_root t) })) refl))
       (λ e. cc) tt))
 
   pub abort_promises : (after' : Running) (reply : Reply) → Aborts (staged_in s.stage) s after' reply
-      → Promises told rules answers now call.UpdateAbort s after' Untouched m m (Ok reply)
+      → Promises told converters now call.UpdateAbort s after' Untouched m m (Ok reply)
   abort_promises after' reply aborts = abort_by (staged_in s.stage) refl after' reply aborts
 
 -- ---- at rest
@@ -154,7 +156,8 @@ free_by worlds.to_open c opened alone free = absurd (true≢false opened)
 free_by worlds.at_rest c opened alone free = refl
 free_by (worlds.updating p) c opened alone free = absurd
     (let e : Some (error.ResourceBusy (holder.Update p.deployment.version)) ≡ None
-    = ap (λ (b : Bool). cond b None (Some (error.ResourceBusy (holder.Update p.deployment.version)))) (sym alone) ∙ free
+    = ap (λ (b : Bool). cond b None (Some (error.ResourceBusy (holder.Update p.deployment.version)))) (sym alone) ∙
+    free
     in cc)
 
 -- a call that does not go beside an update comes to an application at rest

@@ -9,7 +9,6 @@ use Rattle.per_base.specs.declared.errors.Unit.TheVariants as unit
 use Rattle.per_base.specs.Refusals.{NeedsMemory}
 use Rattle.disk_model.specs.Medium.{IsLawful, Medium}
 use Rattle.element_state.specs.States.{State}
-use Rattle.migrate_fns.specs.Rules.{Answers, Rule}
 use Rattle.command_text.specs.declared.calls.Call.{Call}
 use Rattle.command_text.specs.declared.calls.Call.TheVariants as call
 use Rattle.command_text.specs.declared.replies.Answer.TheVariants as answer
@@ -22,7 +21,8 @@ use Rattle.deploy_laws.specs.Laws.{UntouchedAppLaw}
 use Rattle.deploy_rows.specs.Rows.{BeginsWith, Offer, offered, rolling_back, wiping}
 use Rattle.run_model.specs.Calls.{StepBeside, active_storages, app_step, beside_update, concluded, done_with}
 use Rattle.run_model.specs.Calls.{first_open, least_open}
-use Rattle.run_model.specs.Worlds.{Application}
+use Rattle.run_model.specs.Converters.{Converters}
+use Rattle.run_model.specs.Worlds.{Application, application_at}
 use Rattle.run_model.specs.Worlds as worlds
 use Rattle.per_runtime.specs.storages.Needs.{CallNeedsMemory}
 use Rattle.per_runtime.specs.storages.Slots.{IsResting, resting_with, sessions_in}
@@ -43,14 +43,17 @@ plain_some : (x e : PerError) → IsPlain x → Some x ≡ Some e → IsPlain e
 plain_some x e is same = let one : x ≡ e = cc in subst IsPlain one is
 
 pub update_plain : (says : Says) (e : PerError) → no_update_over says ≡ Some e → IsPlain e
-update_plain nothing e is = plain_some (error.IntegrityCorrupted unit.Root) e (record { sound = λ x. cc; text = refl }) is
+update_plain nothing e is = plain_some (error.IntegrityCorrupted unit.Root) e
+    (record { sound = λ x. cc; text = refl })
+    is
 update_plain (absent g) e is = plain_some error.NotInstalled e (record { sound = λ x. cc; text = refl }) is
 update_plain (installed g active None) e is = absurd cc
 update_plain (installed g active (Some previous)) e is = plain_some
     (error.UpdateNotFinished previous.deployment.version) e (record { sound = λ x. cc; text = refl }) is
 
 pub back_plain : (says : Says) (e : PerError) → no_way_back says ≡ Some e → IsPlain e
-back_plain nothing e is = plain_some (error.IntegrityCorrupted unit.Root) e (record { sound = λ x. cc; text = refl }) is
+back_plain nothing e is = plain_some (error.IntegrityCorrupted unit.Root) e (record { sound = λ x. cc; text = refl })
+    is
 back_plain (absent g) e is = plain_some error.NotInstalled e (record { sound = λ x. cc; text = refl }) is
 back_plain (installed g active None) e is = plain_some error.NoPreviousVersion e
     (record { sound = λ x. cc; text = refl }) is
@@ -80,48 +83,51 @@ back_refused busy (absent g) lacking states e is = refused_as _ error.NotInstall
 back_refused busy (installed g active None) lacking states e is = refused_as _ error.NoPreviousVersion e refl is
 back_refused busy (installed g active (Some previous)) lacking states e is = absurd cc
 
-module _ (rules : List Rule) (answers : Answers) (app now : ℕ) (r : Application) (rests : r.stage ≡ worlds.at_rest)
+module _ (converters : Converters) (app now : ℕ) (r : Application) (rests : r.stage ≡ worlds.at_rest)
     (e : PerError) where
   beside_none : (c : Call) → beside_update (worlds.update_in r.stage) c ≡ None
   beside_none c = ap (λ (s : worlds.Stage). beside_update (worlds.update_in s) c) rests
 
-  as_row : (c : Call) → StepBeside rules answers app now r c None (reply_of (Some e), r)
-      → HasRow rules answers app now c r (reply_of (Some e), r)
-  as_row c step = subst (λ (x : Option PerError). StepBeside rules answers app now r c x (reply_of (Some e), r))
+  as_row : (c : Call) → StepBeside converters (application_at app now r) c None (reply_of (Some e), r)
+      → HasRow converters app now c r (reply_of (Some e), r)
+  as_row c step = subst
+      (λ (x : Option PerError). StepBeside converters (application_at app now r) c x (reply_of (Some e), r))
       (sym (beside_none c)) step
 
-  pub back_row : no_way_back r.disk.says ≡ Some e → HasRow rules answers app now call.Rollback r (reply_of (Some e), r)
+  pub back_row : no_way_back r.disk.says ≡ Some e → HasRow converters app now call.Rollback r (reply_of (Some e), r)
   unfolding app_step
   back_row is = as_row call.Rollback (sym (ap (λ (row : Result App PerError). concluded r (done_with r row))
       (back_refused (least_open r) r.disk.says r.disk.lacking r.disk.states e is)))
 
-  begins : (text : List ℕ) → no_update_over r.disk.says ≡ Some e → BeginsWith rules answers now r.disk.states
+  begins : (text : List ℕ) → no_update_over r.disk.says ≡ Some e
+      → BeginsWith converters.rules converters.answers now r.disk.states
       (offered (least_open r) text r.disk) (Err e)
-  begins text is = subst (λ (x : Result Offer PerError). BeginsWith rules answers now r.disk.states x (Err e))
+  begins text is = subst
+      (λ (x : Result Offer PerError). BeginsWith converters.rules converters.answers now r.disk.states x (Err e))
       (sym (offer_refused (least_open r) text r.disk.says r.disk.lacking r.disk.states e is)) refl
 
   pub update_row : (text : List ℕ) → no_update_over r.disk.says ≡ Some e
-      → HasRow rules answers app now (call.Update text) r (reply_of (Some e), r)
+      → HasRow converters app now (call.Update text) r (reply_of (Some e), r)
   update_row text is = as_row (call.Update text) (Err e, begins text is, refl)
 
   pub begin_row : (text : List ℕ) → no_update_over r.disk.says ≡ Some e
-      → HasRow rules answers app now (call.UpdateBegin text) r (reply_of (Some e), r)
+      → HasRow converters app now (call.UpdateBegin text) r (reply_of (Some e), r)
   begin_row text is = as_row (call.UpdateBegin text) (Err e, begins text is, refl)
 
 -- ---- the call
 
-module _ (told : Bool) (rules : List Rule) (answers : Answers) (now : ℕ) (c : Call) (s : Running) (m : Medium)
+module _ (told : Bool) (converters : Converters) (now : ℕ) (c : Call) (s : Running) (m : Medium)
     (lawful : IsLawful told m) (untouched : UntouchedAppLaw) (Untouched : Type 0) (same : Untouched)
     (is : IsRunning told m.image s) (rest : stage_in s.stage ≡ worlds.at_rest) (in_use : RootInUseLaw)
     (refusal : Says → Option PerError) (e : PerError) (plain : IsPlain e)
     (refused : refusal (root_says (stage_root s.stage)) ≡ Some e)
     (row : (r : Application) → r.stage ≡ worlds.at_rest → refusal r.disk.says ≡ Some e
-    → HasRow rules answers s.app now c r (reply_of (Some e), r)) where
+    → HasRow converters s.app now c r (reply_of (Some e), r)) where
   pub early_promises : (reply : Reply) → reply ≡ reply_with (answer.Error e)
-      → Promises told rules answers now c s s Untouched m m (Ok reply)
-  early_promises reply is_reply = subst (λ (x : Reply). Promises told rules answers now c s s Untouched m m (Ok x))
+      → Promises told converters now c s s Untouched m m (Ok reply)
+  early_promises reply is_reply = subst (λ (x : Reply). Promises told converters now c s s Untouched m m (Ok x))
       (sym is_reply)
-      (idle_promises told rules answers now c s m lawful untouched Untouched same is s.stage (reply_of (Some e)) is
+      (idle_promises told converters now c s m lawful untouched Untouched same is s.stage (reply_of (Some e)) is
       (λ tells. row (application m.image s) rest
       (ap refusal (says_in_use in_use told m.image s.app (stage_root s.stage)
       (root_at_in told m.image s.app s.slots s.stage (ap worlds.is_to_open rest) is.stage_at) tells) ∙ refused))
@@ -140,7 +146,8 @@ or_unnamed name (inr none) = inr (unnamed name none)
 
 back_by : (r : Application) (name : List ℕ) (says : Says) (lacking : List ℕ) (states : List State)
     → no_way_back says ≡ None
-    → NeedsMemory (done_with r (rolling_back (Some name) (record { says = says; lacking = lacking; states = states })))
+    → NeedsMemory (done_with r
+    (rolling_back (Some name) (record { says = says; lacking = lacking; states = states })))
 unfolding rolling_back
 back_by r name nothing lacking states none = absurd cc
 back_by r name (absent g) lacking states none = absurd cc
@@ -193,7 +200,8 @@ module _ (told : Bool) (s taken : Running) (root : Root) (m : Medium) (now : ℕ
     least_some : IsTrue told → IsSome (least_open r)
     least_some tells = subst (λ (says : Says). IsSome (first_open (sessions_in s.slots) (active_storages says)))
         (says_same tells)
-        (subst (λ (x : Running). IsSome (first_open (sessions_in x.slots) (active_storages (root_says root)))) taken_is
+        (subst (λ (x : Running). IsSome (first_open (sessions_in x.slots) (active_storages (root_says root))))
+        taken_is
         some)
 
     pub wipe_starves : IsTrue told → MayStarve s.app now call.Wipe (application m.image s)
@@ -207,7 +215,8 @@ module _ (told : Bool) (s taken : Running) (root : Root) (m : Medium) (now : ℕ
         → MayStarve s.app now call.Rollback (application m.image s)
     back_starves given root_is given_is none tells = in_memory call.Rollback (record {
       free = refl;
-      needs = inl (back_wants s.app now r (least_some tells) (root_goes no_way_back given root_is given_is none tells));
+      needs = inl (back_wants s.app now r (least_some tells)
+          (root_goes no_way_back given root_is given_is none tells));
     })
 
   pub update_starves : (text : List ℕ) (given : Option PerError) → root ≡ stage_root s.stage

@@ -10,7 +10,6 @@ use Rattle.per_base.specs.declared.errors.PerError.TheVariants as error
 use Rattle.disk_model.specs.Image.{Image}
 use Rattle.disk_model.specs.Laws.{elapses_none}
 use Rattle.disk_model.specs.Medium.{IsLawful, Medium}
-use Rattle.migrate_fns.specs.Rules.{Answers, Rule}
 use Rattle.command_text.specs.declared.calls.Call.{Call}
 use Rattle.command_text.specs.declared.replies.Answer.TheVariants as answer
 use Rattle.command_text.specs.declared.replies.Reply.{Reply}
@@ -26,6 +25,7 @@ use Rattle.deploy_laws.specs.Laws.{UntouchedAppLaw}
 use Rattle.deploy_rows.specs.Rows as rows
 use Rattle.deploy_rows.specs.Rows.{after}
 use Rattle.run_model.specs.Calls.{active_storages, first_open, least_open}
+use Rattle.run_model.specs.Converters.{Converters}
 use Rattle.run_model.specs.Found.{FoundStorage, storage_in}
 use Rattle.run_model.specs.Runtimes.{IsUnwritten, WritesWithin, is_refusal}
 use Rattle.run_model.specs.Sessions.{Session}
@@ -33,7 +33,7 @@ use Rattle.run_model.specs.Steps.{after_failure, device_storage, found_named}
 use Rattle.run_model.specs.Turns.{bytes_now}
 use Rattle.run_model.specs.WriteLaws.{call_unwritten}
 use Rattle.run_model.specs.Writes.{IsCallWithin}
-use Rattle.run_model.specs.Worlds.{Application}
+use Rattle.run_model.specs.Worlds.{Application, application_at}
 use Rattle.run_model.specs.Worlds as worlds
 use Rattle.per_runtime.specs.declared.storages.slots.OpenSlots.{OpenSlots}
 use Rattle.per_runtime.specs.storages.Slots.{AreOpenOn, IsResting, resting_with, sessions_in}
@@ -76,7 +76,8 @@ pub failed_app : (image : Image) (b after : Running) (r : Application) → after
 failed_app image b after r app stage none =
     ap (λ (n : ℕ). record { disk = app_at image n; stage = stage_in after.stage; sessions = sessions_in after.slots })
     app
-    ∙ (ap (λ (s : Stage). record { disk = app_at image b.app; stage = stage_in s; sessions = sessions_in after.slots })
+    ∙ (ap (λ (s : Stage). record
+    { disk = app_at image b.app; stage = stage_in s; sessions = sessions_in after.slots })
     stage
     ∙ ap (λ (ss : worlds.Sessions). record { disk = app_at image b.app; stage = worlds.to_open; sessions = ss })
     (closed after.slots none))
@@ -102,12 +103,13 @@ names_none app c r none old new f named = absurd (none_some (found_named r c) (O
 
 -- ---- a row of a deployment
 
-module _ (told : Bool) (rules : List Rule) (answers : Answers) (now : ℕ) (c : Call) (b : Running) (root : Root)
+module _ (told : Bool) (converters : Converters) (now : ℕ) (c : Call) (b : Running) (root : Root)
     (old new : Medium) (Untouched : Type 0)
     (unwritten : Untouched → IsUnwritten old new) (resting : IsResting told old.image b.app root b.slots)
     (in_use : RootInUseLaw) (row : App → Result App PerError) (Due : PerError → Type 0)
-    (word : IsWord told rules answers b.app now c (resting_with old.image b.app b.slots) row Due)
-    (within : IsTrue told → IsCallWithin rules answers b.app now (resting_with old.image b.app b.slots) c (bytes_now old)
+    (word : IsWord told converters b.app now c (resting_with old.image b.app b.slots) row Due)
+    (within : IsTrue told
+    → IsCallWithin converters (application_at b.app now (resting_with old.image b.app b.slots)) c (bytes_now old)
     (bytes_now new)) where
   abbrev before : Running
   before = record b { stage = AtRest root }
@@ -146,7 +148,7 @@ module _ (told : Bool) (rules : List Rule) (answers : Answers) (now : ℕ) (c : 
     not_written None is none = absurd (true≢false (sym none))
     not_written (Some e) is some = unwritten (m.unchanged (some_refused e is)).0
 
-    done_promises : Promises told rules answers now c before (record b { stage = AtRest o.root }) Untouched old new
+    done_promises : Promises told converters now c before (record b { stage = AtRest o.root }) Untouched old new
         (Ok (reply_of o.refused))
     done_promises = record {
       app = refl;
@@ -160,7 +162,7 @@ module _ (told : Bool) (rules : List Rule) (answers : Answers) (now : ℕ) (c : 
             (settled_row row word.alike r (app_at new.image b.app) (root_app root []) o.refused (says_same tells)
             m.refused (m.leads tells));
         later = subst (λ (a : App). IsLater r.disk a) (sym (m.leads tells))
-            (row_later told rules answers b.app now c r row Due word);
+            (row_later told converters b.app now c r row Due word);
         calls = subst (λ (a : App). CallsTo b.app a old new) (sym (m.leads tells)) (m.calls tells);
         clean = m.clean tells;
       };
@@ -181,10 +183,11 @@ module _ (told : Bool) (rules : List Rule) (answers : Answers) (now : ℕ) (c : 
       time = m.time;
     }
 
-  module _ (after' : Running) (app : after'.app ≡ b.app) (stage : after'.stage ≡ ToOpen) (none : NoneOpen after'.slots)
+  module _ (after' : Running) (app : after'.app ≡ b.app) (stage : after'.stage ≡ ToOpen)
+      (none : NoneOpen after'.slots)
     where
       device_promises : Made told row Due b.app root Untouched old new (Err stop.Device)
-          → Promises told rules answers now c before after' Untouched old new (Err stop.Device)
+          → Promises told converters now c before after' Untouched old new (Err stop.Device)
       device_promises m = record {
         app = app;
         memory = λ fed. marked_running told new.image b after' resting.below app stage none;
@@ -193,8 +196,8 @@ module _ (told : Bool) (rules : List Rule) (answers : Answers) (now : ℕ) (c : 
           reaches = word.reaches tells (ok_alike row word.alike (root_app root []) r.disk (says_same tells)
               (m.device_only refl));
           next = after r.disk (row r.disk);
-          leads = row_leads told rules answers b.app now c r row Due word tells;
-          later = row_later told rules answers b.app now c r row Due word;
+          leads = row_leads told converters b.app now c r row Due word tells;
+          later = row_later told converters b.app now c r row Due word;
           is_after = failed_app new.image b after' r app stage none
               ∙ ap (λ f. after_failure (app_at new.image b.app) r f) (sym (none_found r c word.no_storage));
           calls = m.calls tells;
@@ -223,7 +226,7 @@ module _ (told : Bool) (rules : List Rule) (answers : Answers) (now : ℕ) (c : 
           (sym (m.due e (word.alike r.disk (root_app root []) e (sym (says_same tells)) is) due)))
 
       memory_promises : Made told row Due b.app root Untouched old new (Err stop.OutOfMemory)
-          → Promises told rules answers now c before after' Untouched old new (Err stop.OutOfMemory)
+          → Promises told converters now c before after' Untouched old new (Err stop.OutOfMemory)
       memory_promises m = record {
         app = app;
         memory = λ fed. absurd (fed refl);
@@ -232,8 +235,8 @@ module _ (told : Bool) (rules : List Rule) (answers : Answers) (now : ℕ) (c : 
         stopped = λ tells bad. record {
           needs = record { free = refl; needs = starves m tells (row r.disk) refl };
           next = after r.disk (row r.disk);
-          leads = row_leads told rules answers b.app now c r row Due word tells;
-          later = row_later told rules answers b.app now c r row Due word;
+          leads = row_leads told converters b.app now c r row Due word tells;
+          later = row_later told converters b.app now c r row Due word;
           calls = m.calls tells;
         };
         quiet = λ quiet. tt;
@@ -252,27 +255,29 @@ module _ (told : Bool) (rules : List Rule) (answers : Answers) (now : ℕ) (c : 
       }
 
       stopped_promises : (e : Stop) → Made told row Due b.app root Untouched old new (Err e)
-          → Promises told rules answers now c before after' Untouched old new (Err e)
+          → Promises told converters now c before after' Untouched old new (Err e)
       stopped_promises stop.Device m = device_promises m
       stopped_promises stop.OutOfMemory m = memory_promises m
 
   pub rowed_promises : (made : Result Outcome Stop) → Made told row Due b.app root Untouched old new made
       → IfOk made (λ o. o.refused ≡ None → AreOpenOn told new.image b.app (root_says o.root) b.slots)
-      → (after' : Running) (result : Result Reply Stop) → ConcludesCall made (record b { stage = ToOpen }) after' result
-      → Promises told rules answers now c before after' Untouched old new result
+      → (after' : Running) (result : Result Reply Stop)
+      → ConcludesCall made (record b { stage = ToOpen }) after' result
+      → Promises told converters now c before after' Untouched old new result
   rowed_promises (Ok o) m kept after' result s = subst (λ (x : Running).
-      Promises told rules answers now c before x Untouched old new result) (sym s.0)
-      (subst (λ (x : Result Reply Stop). Promises told rules answers now c before (record b { stage = AtRest o.root })
+      Promises told converters now c before x Untouched old new result) (sym s.0)
+      (subst (λ (x : Result Reply Stop). Promises told converters now c before (record b { stage = AtRest o.root })
       Untouched old new x) (sym s.1) (done_promises o m kept))
   rowed_promises (Err e) m kept after' result s = subst
-      (λ (x : Result Reply Stop). Promises told rules answers now c before after' Untouched old new x) (sym s.3)
+      (λ (x : Result Reply Stop). Promises told converters now c before after' Untouched old new x) (sym s.3)
       (stopped_promises after' s.0 s.1 s.2 e m)
 
 -- ---- the same of what is in memory
 
 pub resting_in : (told : Bool) (image : Image) (s : Running) (root : Root) → IsRunning told image s
     → stage_in s.stage ≡ worlds.at_rest → root ≡ stage_root s.stage → IsResting told image s.app root s.slots
-resting_in told image s root is rest root_is = subst (λ (x : Root). IsResting told image s.app x s.slots) (sym root_is)
+resting_in told image s root is rest root_is = subst (λ (x : Root). IsResting told image s.app x s.slots)
+    (sym root_is)
     (subst (λ (st : Stage). IsStageAt told image s.app s.slots st) (sym (rests s.stage rest)) is.stage_at)
 
 -- the root was taken out of it
@@ -281,23 +286,24 @@ pub stage_back : (s : Running) (root : Root) → stage_in s.stage ≡ worlds.at_
 stage_back s root rest root_is = ap (λ (x : Root). record s { stage = AtRest x }) root_is
     ∙ ap (λ (st : Stage). record s { stage = st }) (rests s.stage rest)
 
-module _ (told : Bool) (rules : List Rule) (answers : Answers) (now : ℕ) (c : Call) (s taken : Running) (root : Root)
+module _ (told : Bool) (converters : Converters) (now : ℕ) (c : Call) (s taken : Running) (root : Root)
     (old new : Medium) (Untouched : Type 0)
     (unwritten : Untouched → IsUnwritten old new) (is : IsRunning told old.image s)
     (rest : stage_in s.stage ≡ worlds.at_rest) (root_is : root ≡ stage_root s.stage)
     (taken_is : taken ≡ record s { stage = ToOpen }) (in_use : RootInUseLaw) (row : App → Result App PerError)
     (Due : PerError → Type 0) where
-  pub word_promises : IsWord told rules answers s.app now c (resting_with old.image s.app s.slots) row Due
-      → (IsTrue told → IsCallWithin rules answers s.app now (resting_with old.image s.app s.slots) c (bytes_now old)
+  pub word_promises : IsWord told converters s.app now c (resting_with old.image s.app s.slots) row Due
+      → (IsTrue told → IsCallWithin converters (application_at s.app now (resting_with old.image s.app s.slots)) c
+      (bytes_now old)
       (bytes_now new))
       → (made : Result Outcome Stop) → Made told row Due s.app root Untouched old new made
       → IfOk made (λ o. o.refused ≡ None → AreOpenOn told new.image s.app (root_says o.root) s.slots)
       → (after' : Running) (result : Result Reply Stop) → ConcludesCall made taken after' result
-      → Promises told rules answers now c s after' Untouched old new result
+      → Promises told converters now c s after' Untouched old new result
   word_promises word within made m kept after' result settles =
-      subst (λ (x : Running). Promises told rules answers now c x after' Untouched old new result)
+      subst (λ (x : Running). Promises told converters now c x after' Untouched old new result)
       (stage_back s root rest root_is)
-      (rowed_promises told rules answers now c s root old new Untouched unwritten
+      (rowed_promises told converters now c s root old new Untouched unwritten
       (resting_in told old.image s root is rest root_is) in_use row Due word within made m kept after' result
       (subst (λ (x : Running). ConcludesCall made x after' result) taken_is settles))
 
@@ -315,14 +321,14 @@ within_itself copies contents index before = omega arith
 pub writes_nothing : (app : ℕ) (f : FoundStorage) (s : Session) (m : Medium) → WritesWithin app f s m m
 writes_nothing app f s m = record { same = λ same. refl; at_most = λ v others is. within_itself _ _ _ m.written }
 
-module _ (told : Bool) (rules : List Rule) (answers : Answers) (now : ℕ) (c : Call) (s : Running) (m : Medium)
+module _ (told : Bool) (converters : Converters) (now : ℕ) (c : Call) (s : Running) (m : Medium)
     (lawful : IsLawful told m) (untouched : UntouchedAppLaw)
     (Untouched : Type 0) (same : Untouched) (is : IsRunning told m.image s) where
   pub idle_promises : (stage : Stage) (reply : Reply) → IsRunning told m.image (record s { stage = stage })
-      → (IsTrue told → HasRow rules answers s.app now c (application m.image s)
+      → (IsTrue told → HasRow converters s.app now c (application m.image s)
       (reply, application m.image (record s { stage = stage })))
       → reply.answer ≢ answer.Error error.PhysicalStorageFailure → HasText reply.answer
-      → Promises told rules answers now c s (record s { stage = stage }) Untouched m m (Ok reply)
+      → Promises told converters now c s (record s { stage = stage }) Untouched m m (Ok reply)
   idle_promises stage reply is_after row sound text = record {
     app = refl;
     memory = λ fed. is_after;
@@ -339,7 +345,7 @@ module _ (told : Bool) (rules : List Rule) (answers : Answers) (now : ℕ) (c : 
     unwritten = λ refused. (refl, refl);
     looks = λ plans. (refl, refl);
     written = λ tells durable f x found there. writes_nothing s.app f x m;
-    within = λ tells. call_unwritten rules answers s.app now (application m.image s) c (bytes_now m) (bytes_now m)
+    within = λ tells. call_unwritten converters s.app now (application m.image s) c (bytes_now m) (bytes_now m)
         refl refl;
     place = λ tells f named file beside. refl;
     cause = λ bad. absurd cc;
@@ -353,9 +359,9 @@ module _ (told : Bool) (rules : List Rule) (answers : Answers) (now : ℕ) (c : 
   -- memory ran out before anything was done
   pub starved_promises : (IsTrue told → MayStarve s.app now c (application m.image s)) → (after' : Running)
       → after'.app ≡ s.app → (result : Result Reply Stop)
-      → result ≡ Err stop.OutOfMemory → Promises told rules answers now c s after' Untouched m m result
+      → result ≡ Err stop.OutOfMemory → Promises told converters now c s after' Untouched m m result
   starved_promises needs after' app result failed = subst (λ (x : Result Reply Stop).
-      Promises told rules answers now c s after' Untouched m m x) (sym failed) (record {
+      Promises told converters now c s after' Untouched m m x) (sym failed) (record {
         app = app;
         memory = λ fed. absurd (fed refl);
         answered = λ tells. tt;
@@ -372,7 +378,7 @@ module _ (told : Bool) (rules : List Rule) (answers : Answers) (now : ℕ) (c : 
         unwritten = tt;
         looks = λ plans. (refl, refl);
         written = λ tells durable f x found there. writes_nothing s.app f x m;
-        within = λ tells. call_unwritten rules answers s.app now (application m.image s) c (bytes_now m) (bytes_now m)
+        within = λ tells. call_unwritten converters s.app now (application m.image s) c (bytes_now m) (bytes_now m)
             refl refl;
         place = λ tells f named file beside. refl;
         cause = λ bad. absurd cc;
@@ -414,7 +420,8 @@ busy_least told image app root slots in_use resting busy busy_is tells = busy_is
     (sym (ap (λ (a : App). a.says) (in_use image app root resting.root_at.memory (resting.root_at.disk tells))))
 
 -- memory ran out
-pub starved : (result : Result Reply Stop) → IsErrAnd result (λ e. e ≡ stop.OutOfMemory) → result ≡ Err stop.OutOfMemory
+pub starved : (result : Result Reply Stop) → IsErrAnd result (λ e. e ≡ stop.OutOfMemory) → result
+    ≡ Err stop.OutOfMemory
 starved (Ok reply) is = absurd is
 starved (Err e) is = ap (λ (x : Stop). Err x) is
 

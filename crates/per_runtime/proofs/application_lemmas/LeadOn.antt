@@ -5,7 +5,6 @@ use Rattle.per_base.specs.declared.elements.StoreKind.TheVariants as kinds
 use Rattle.per_base.specs.declared.errors.PerError.{PerError}
 use Rattle.per_base.specs.Refusals.{refuse}
 use Rattle.element_state.specs.States.{State, Opens, Corrupt}
-use Rattle.migrate_fns.specs.Rules.{Rule, Answers}
 use Rattle.command_text.specs.declared.calls.Call.{Call}
 use Rattle.command_text.specs.declared.calls.Call.TheVariants as call
 use Rattle.command_text.specs.declared.replies.Answer.TheVariants as answer
@@ -22,10 +21,11 @@ use Rattle.run_model.specs.Calls.{storage_opened}
 use Rattle.run_model.specs.Calls.{progress_of, rebuild_step, concluded, status_step, sync_step, unless_busy}
 use Rattle.run_model.specs.Calls.{unless_open}
 use Rattle.run_model.specs.Calls.{with_session, with_update, without_session}
+use Rattle.run_model.specs.Converters.{Converters}
 use Rattle.run_model.specs.Found.{FoundStorage, storage_in, with_storage_state}
 use Rattle.run_model.specs.Laws.{StorageLaterLaw}
 use Rattle.run_model.specs.Sessions.{Session, files, in_session, keys, made_durable}
-use Rattle.run_model.specs.Worlds.{Application, update_in}
+use Rattle.run_model.specs.Worlds.{Application, update_in, application_at}
 use Rattle.per_runtime.specs.application.Answers.{HasRow}
 
 pub still : (a : App) → IsLater a a
@@ -35,7 +35,8 @@ still a = same_root refl refl
 abbrev pub OnFrom : Application → Result Outcome PerError → Type 0
 OnFrom r row = IfOk row (λ o. IsLater r.disk o.1.disk)
 
-chain : {A B : Type 0} (P : B → Type 0) (row : Result A PerError) (f : A → Result B PerError) → ((x : A) → IfOk (f x) P)
+chain : {A B : Type 0} (P : B → Type 0) (row : Result A PerError) (f : A → Result B PerError)
+    → ((x : A) → IfOk (f x) P)
     → IfOk (row >>= f) P
 chain P (Ok x) f each = each x
 chain P (Err e) f each = tt
@@ -50,7 +51,8 @@ unless : {A : Type 0} (P : A → Type 0) (test : Bool) (e : PerError) (rest : Re
 unless P true e rest on = tt
 unless P false e rest on = on
 
-pub settled : (r : Application) (row : Result Outcome PerError) → OnFrom r row → IsLater r.disk (concluded r row).1.disk
+pub settled : (r : Application) (row : Result Outcome PerError) → OnFrom r row
+    → IsLater r.disk (concluded r row).1.disk
 settled r (Ok o) on = on
 settled r (Err e) on = still r.disk
 
@@ -174,30 +176,30 @@ module _ (storage : StorageLaterLaw) where
     step_on app r now (call.ResetStorage n) = rebuild_on r n (λ f. resetting f.config now f.state)
     step_on app r now other = local_by r now (local_on other) other
 
-    begins_on : (rules : List Rule) (answers : Answers) (now : ℕ) (r : Application) (text : List ℕ)
+    begins_on : (converters : Converters) (now : ℕ) (r : Application) (text : List ℕ)
         (after : InProgress → Result Outcome PerError) (o : Outcome)
-        → ((p : InProgress) → OnFrom r (after p)) → BeginsBy rules answers now r text after o → IsLater r.disk o.1.disk
-    begins_on rules answers now r text after o each begins =
+        → ((p : InProgress) → OnFrom r (after p)) → BeginsBy converters now r text after o → IsLater r.disk o.1.disk
+    begins_on converters now r text after o each begins =
         subst (λ (x : Outcome). IsLater r.disk x.1.disk) (sym begins.2)
         (settled r (begins.0 >>= after) (chain (λ (x : Outcome). IsLater r.disk x.1.disk) begins.0 after each))
 
-    call_on : (rules : List Rule) (answers : Answers) (app now : ℕ) (r : Application) (c : Call) (o : Outcome)
-        → CallStep rules answers app now r c o → IsLater r.disk o.1.disk
-    call_on rules answers app now r (call.Update text) o step =
-        begins_on rules answers now r text (with_update r) o (λ p. update p r.disk) step
-    call_on rules answers app now r (call.UpdateBegin text) o step =
-        begins_on rules answers now r text (with_update_begun r) o (λ p. still r.disk) step
-    call_on rules answers app now r other o step = subst (λ (x : Outcome). IsLater r.disk x.1.disk) (sym step)
+    call_on : (converters : Converters) (app now : ℕ) (r : Application) (c : Call) (o : Outcome)
+        → CallStep converters (application_at app now r) c o → IsLater r.disk o.1.disk
+    call_on converters app now r (call.Update text) o step =
+        begins_on converters now r text (with_update r) o (λ p. update p r.disk) step
+    call_on converters app now r (call.UpdateBegin text) o step =
+        begins_on converters now r text (with_update_begun r) o (λ p. still r.disk) step
+    call_on converters app now r other o step = subst (λ (x : Outcome). IsLater r.disk x.1.disk) (sym step)
         (settled r (app_step app r now other) (step_on app r now other))
 
-    beside_on : (rules : List Rule) (answers : Answers) (app now : ℕ) (r : Application) (c : Call)
-        (refused : Option PerError) (o : Outcome) → StepBeside rules answers app now r c refused o
+    beside_on : (converters : Converters) (app now : ℕ) (r : Application) (c : Call)
+        (refused : Option PerError) (o : Outcome) → StepBeside converters (application_at app now r) c refused o
         → IsLater r.disk o.1.disk
-    beside_on rules answers app now r c (Some e) o step =
+    beside_on converters app now r c (Some e) o step =
         subst (λ (x : Outcome). IsLater r.disk x.1.disk) (sym step) (still r.disk)
-    beside_on rules answers app now r c None o step = call_on rules answers app now r c o step
+    beside_on converters app now r c None o step = call_on converters app now r c o step
 
-    pub leads_on : (rules : List Rule) (answers : Answers) (app now : ℕ) (c : Call) (r : Application) (o : Outcome)
-        → HasRow rules answers app now c r o → IsLater r.disk o.1.disk
-    leads_on rules answers app now c r o row = beside_on rules answers app now r c (beside_update (update_in r.stage) c)
+    pub leads_on : (converters : Converters) (app now : ℕ) (c : Call) (r : Application) (o : Outcome)
+        → HasRow converters app now c r o → IsLater r.disk o.1.disk
+    leads_on converters app now c r o row = beside_on converters app now r c (beside_update (update_in r.stage) c)
         o row

@@ -1,10 +1,9 @@
 -- A call of a deployment beside its row: the reply and the application after it, and where it may lead.
-use Rattle.std.proofs.Common.{◌≡◌, ◌⊎◌, ℕ, List, [], Bool, true, false, IsTrue, Option, Some, None, IfErr}
+use Rattle.std.proofs.Common.{◌≡◌, ◌⊎◌, ℕ, [], Bool, true, false, IsTrue, Option, Some, None, IfErr}
 use Rattle.std.proofs.Common.{IfOk, IsOk, IsErrOf, OnOk, is_ok, Result, Ok, Err, refl, sym, ap, ◌∙◌, inl, inr}
 use Rattle.per_base.specs.Causes.{Rose}
 use Rattle.per_base.specs.declared.errors.PerError.{PerError}
 use Rattle.disk_model.specs.Medium.{Elapses, Medium, Quiet}
-use Rattle.migrate_fns.specs.Rules.{Answers, Rule}
 use Rattle.command_text.specs.declared.calls.Call.{Call}
 use Rattle.command_text.specs.declared.replies.Answer.TheVariants as answer
 use Rattle.deploy.specs.declared.errors.Stop.{Stop}
@@ -19,6 +18,7 @@ use Rattle.deploy_rows.specs.Rows as rows
 use Rattle.deploy_rows.specs.Rows.{after}
 use Rattle.run_model.specs.Calls as calls
 use Rattle.run_model.specs.Calls.{answered, done_with, concluded}
+use Rattle.run_model.specs.Converters.{Converters}
 use Rattle.run_model.specs.Runtimes.{is_durable, only_plans}
 use Rattle.run_model.specs.Steps.{device_storage, reaches_device, uses_device}
 use Rattle.run_model.specs.Worlds.{Application}
@@ -73,13 +73,13 @@ module _ (row : App → Result App PerError) (alike : RefusesAlike row) where
 -- ---- a word: a call that is one row of a deployment
 
 -- `Due` says which refusals need no memory.
-pub record IsWord (told : Bool) (rules : List Rule) (answers : Answers) (app now : ℕ) (c : Call) (r : Application)
+pub record IsWord (told : Bool) (converters : Converters) (app now : ℕ) (c : Call) (r : Application)
     (row : App → Result App PerError) (Due : PerError → Type 0) : Type 0 where
   pub alike : RefusesAlike row
   pub plain : (a : App) → IfErr (row a) IsPlain
   pub later : (a b : App) → row a ≡ Ok b → IsLater a b
   pub has_row : IsTrue told → (o : calls.Outcome) → o ≡ concluded r (done_with r (row r.disk))
-      → HasRow rules answers app now c r o
+      → HasRow converters app now c r o
   pub reaches : IsTrue told → IsOk (row r.disk) → IsTrue (reaches_device app r now c)
   pub wants : IsTrue told → (e : PerError) → row r.disk ≡ Err e → (Due e → ⊥)
       → CallNeedsMemory app now c r ⊎ ReadsManifest c r
@@ -88,9 +88,9 @@ pub record IsWord (told : Bool) (rules : List Rule) (answers : Answers) (app now
   pub no_plan : only_plans c ≡ false
   pub uses : uses_device r.disk c ≡ true
 
-module _ (told : Bool) (rules : List Rule) (answers : Answers) (app now : ℕ) (c : Call) (r : Application)
+module _ (told : Bool) (converters : Converters) (app now : ℕ) (c : Call) (r : Application)
     (row : App → Result App PerError) (Due : PerError → Type 0)
-    (word : IsWord told rules answers app now c r row Due) where
+    (word : IsWord told converters app now c r row Due) where
   later_by : (y : Result App PerError) → row r.disk ≡ y → IsLater r.disk (after r.disk y)
   later_by (Ok b) is = word.later r.disk b is
   later_by (Err e) is = still r.disk
@@ -99,7 +99,7 @@ module _ (told : Bool) (rules : List Rule) (answers : Answers) (app now : ℕ) (
   row_later = later_by (row r.disk) refl
 
   leads_by : IsTrue told → (y : Result App PerError) → row r.disk ≡ y
-      → MayLead rules answers app now c r (after r.disk y)
+      → MayLead converters app now c r (after r.disk y)
   leads_by tells (Ok b) is = inr (
     answered answer.Done (record r { disk = b }),
     word.has_row tells (answered answer.Done (record r { disk = b }))
@@ -108,7 +108,7 @@ module _ (told : Bool) (rules : List Rule) (answers : Answers) (app now : ℕ) (
   )
   leads_by tells (Err e) is = inl refl
 
-  pub row_leads : IsTrue told → MayLead rules answers app now c r (after r.disk (row r.disk))
+  pub row_leads : IsTrue told → MayLead converters app now c r (after r.disk (row r.disk))
   row_leads tells = leads_by tells (row r.disk) refl
 
 -- ---- how a call of the deployment was done

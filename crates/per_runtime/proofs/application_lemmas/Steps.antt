@@ -12,7 +12,6 @@ use Rattle.guarded_cell.specs.Cells.{generation_of}
 use Rattle.deployment_model.specs.Data.{storage_data}
 use Rattle.element_state.specs.States.{State}
 use Rattle.root_text.specs.Views.{version_said}
-use Rattle.migrate_fns.specs.Rules.{Answers, Rule}
 use Rattle.command_text.specs.declared.calls.Call.{Call}
 use Rattle.command_text.specs.declared.calls.Call.TheVariants as call
 use Rattle.command_text.specs.declared.replies.Answer.TheVariants as answer
@@ -38,10 +37,11 @@ use Rattle.deploy_rows.specs.Rows.{◌>>=◌, InProgress, installing, updated_ap
 use Rattle.run_model.specs.Calls as calls
 use Rattle.run_model.specs.Calls.{StepBeside, answered, app_step, beside_update, done_with, next_step, commit_step}
 use Rattle.run_model.specs.Calls.{abort_step, progress_of, remaining, concluded}
+use Rattle.run_model.specs.Converters.{Converters}
 use Rattle.run_model.specs.Runtimes.{is_durable, is_refusal, only_plans}
 use Rattle.run_model.specs.Steps.{after_failure, device_storage, reaches_device, uses_device}
 use Rattle.run_model.specs.Turns.{bytes_now}
-use Rattle.run_model.specs.Worlds.{Application}
+use Rattle.run_model.specs.Worlds.{Application, application_at}
 use Rattle.run_model.specs.Worlds as worlds
 use Rattle.run_model.specs.Writes.{IsCallWithin}
 use Rattle.per_runtime.specs.storages.Answers.{CallsTo}
@@ -117,7 +117,8 @@ pub update_back : (b : Running) (s : Staged) → b.stage ≡ Updating s → reco
 update_back b s is = ap (λ (x : Stage). record b { stage = x }) (sym is)
 
 -- a version is installed over which no other one is
-installed_by : (now : ℕ) (text : List ℕ) (says : Says) (lacking : List ℕ) (states : List State) (g : ℕ) (active : Named)
+installed_by : (now : ℕ) (text : List ℕ) (says : Says) (lacking : List ℕ) (states : List State) (g : ℕ)
+    (active : Named)
     (previous : Option Named) → says ≡ installed g active previous
     → installing now text (record { says = says; lacking = lacking; states = states }) ≡ Err error.AlreadyInstalled
 unfolding installing
@@ -139,7 +140,8 @@ without_sound says = (without_plain says).sound
 pub without_text : (says : Says) → HasText (reply_of (Some (without_update says))).answer
 without_text says = (without_plain says).text
 
-pub same_if_none : {b after' : Running} (taken : Option Staged) → taken ≡ None → IfNone taken (after' ≡ b) → after' ≡ b
+pub same_if_none : {b after' : Running} (taken : Option Staged) → taken ≡ None → IfNone taken (after' ≡ b) → after'
+    ≡ b
 same_if_none {b} {after'} taken none same = subst (λ (x : Option Staged). IfNone x (after' ≡ b)) none same
 
 pub without_same : (b after' : Running) → after' ≡ b → reply_of
@@ -149,22 +151,22 @@ without_same b after' same = ap (λ (x : Running). reply_of (Some (without_updat
     same
 
 -- the application stays, and the refusal is that of its root
-module _ (told : Bool) (rules : List Rule) (answers : Answers) (now : ℕ) (c : Call) (s : Running) (m : Medium)
+module _ (told : Bool) (converters : Converters) (now : ℕ) (c : Call) (s : Running) (m : Medium)
     (lawful : IsLawful told m) (untouched : UntouchedAppLaw) (Untouched : Type 0) (same : Untouched)
     (is : IsRunning told m.image s) (opened : worlds.is_to_open (stage_in s.stage) ≡ false)
     (none : staged_in s.stage ≡ None) (in_use : RootInUseLaw)
-    (row : (r : Application) → r.stage ≡ worlds.at_rest → HasRow rules answers s.app now c r
+    (row : (r : Application) → r.stage ≡ worlds.at_rest → HasRow converters s.app now c r
     (reply_of (Some (without_update r.disk.says)), r)) where
   pub without_promises : (after' : Running) → after' ≡ s → (reply : Reply)
       → reply ≡ reply_of (Some (without_update (root_says (stage_root s.stage))))
-      → Promises told rules answers now c s after' Untouched m m (Ok reply)
+      → Promises told converters now c s after' Untouched m m (Ok reply)
   without_promises after' is_after reply is_reply =
       let says = root_says (stage_root s.stage) in
-      subst (λ (x : Running). Promises told rules answers now c s x Untouched m m (Ok reply)) (sym is_after)
-      (subst (λ (x : Reply). Promises told rules answers now c s s Untouched m m (Ok x)) (sym is_reply)
-      (idle_promises told rules answers now c s m lawful untouched Untouched same is s.stage
+      subst (λ (x : Running). Promises told converters now c s x Untouched m m (Ok reply)) (sym is_after)
+      (subst (λ (x : Reply). Promises told converters now c s s Untouched m m (Ok x)) (sym is_reply)
+      (idle_promises told converters now c s m lawful untouched Untouched same is s.stage
       (reply_of (Some (without_update says))) is
-      (λ tells. subst (λ (x : Says). HasRow rules answers s.app now c (application m.image s)
+      (λ tells. subst (λ (x : Says). HasRow converters s.app now c (application m.image s)
       (reply_of (Some (without_update x)), application m.image s))
       (says_in_use in_use told m.image s.app (stage_root s.stage)
       (root_at_in told m.image s.app s.slots s.stage opened is.stage_at) tells)
@@ -195,12 +197,13 @@ commit_refused r none = without_row (λ p. Ok (answered answer.Done
 
 pub abort_refused : (r : Application) → worlds.update_in r.stage ≡ None
     → (reply_of (Some (without_update r.disk.says)), r) ≡ concluded r (abort_step r)
-abort_refused r none = without_row (λ p. Ok (answered answer.Done (record r { stage = worlds.at_rest }))) r r.disk.says
+abort_refused r none = without_row (λ p. Ok (answered answer.Done (record r { stage = worlds.at_rest }))) r
+    r.disk.says
     ∙ ap (λ (p : Option InProgress). concluded r (calls.progress_in r.disk.says p >>= λ q.
     Ok (answered answer.Done (record r { stage = worlds.at_rest })))) (sym none)
 
 -- as rows of calls
-module _ (rules : List Rule) (answers : Answers) (app now : ℕ) (r : Application) (rests : r.stage ≡ worlds.at_rest)
+module _ (converters : Converters) (app now : ℕ) (r : Application) (rests : r.stage ≡ worlds.at_rest)
   where
     none_in : worlds.update_in r.stage ≡ None
     none_in = ap worlds.update_in rests
@@ -208,29 +211,33 @@ module _ (rules : List Rule) (answers : Answers) (app now : ℕ) (r : Applicatio
     beside_none : (c : Call) → beside_update (worlds.update_in r.stage) c ≡ None
     beside_none c = ap (λ (p : Option InProgress). beside_update p c) none_in
 
-    pub next_refused_row : HasRow rules answers app now call.UpdateNext r
+    pub next_refused_row : HasRow converters app now call.UpdateNext r
         (reply_of (Some (without_update r.disk.says)), r)
     unfolding app_step
-    next_refused_row = subst (λ (x : Option PerError). StepBeside rules answers app now r call.UpdateNext x
-        (reply_of (Some (without_update r.disk.says)), r)) (sym (beside_none call.UpdateNext)) (next_refused r none_in)
+    next_refused_row = subst
+        (λ (x : Option PerError). StepBeside converters (application_at app now r) call.UpdateNext x
+        (reply_of (Some (without_update r.disk.says)), r)) (sym (beside_none call.UpdateNext))
+        (next_refused r none_in)
 
-    pub commit_refused_row : HasRow rules answers app now call.UpdateCommit r
+    pub commit_refused_row : HasRow converters app now call.UpdateCommit r
         (reply_of (Some (without_update r.disk.says)), r)
     unfolding app_step
-    commit_refused_row = subst (λ (x : Option PerError). StepBeside rules answers app now r call.UpdateCommit x
+    commit_refused_row = subst
+        (λ (x : Option PerError). StepBeside converters (application_at app now r) call.UpdateCommit x
         (reply_of (Some (without_update r.disk.says)), r)) (sym (beside_none call.UpdateCommit))
         (commit_refused r none_in)
 
-    pub abort_refused_row : HasRow rules answers app now call.UpdateAbort r
+    pub abort_refused_row : HasRow converters app now call.UpdateAbort r
         (reply_of (Some (without_update r.disk.says)), r)
     unfolding app_step
-    abort_refused_row = subst (λ (x : Option PerError). StepBeside rules answers app now r call.UpdateAbort x
+    abort_refused_row = subst
+        (λ (x : Option PerError). StepBeside converters (application_at app now r) call.UpdateAbort x
         (reply_of (Some (without_update r.disk.says)), r)) (sym (beside_none call.UpdateAbort))
         (abort_refused r none_in)
 
 -- ---- over an update in progress
 
-module _ (told : Bool) (rules : List Rule) (answers : Answers) (now : ℕ) (b : Running) (s : Staged) (old new : Medium)
+module _ (told : Bool) (converters : Converters) (now : ℕ) (b : Running) (s : Staged) (old new : Medium)
     (Untouched : Type 0)
     (is : StagedAt told old.image b.app s) (below : b.app < 8) (none : NoneOpen b.slots) (in_use : RootInUseLaw) where
   abbrev before : Running
@@ -265,9 +272,10 @@ module _ (told : Bool) (rules : List Rule) (answers : Answers) (now : ℕ) (b : 
 
   -- ---- one more storage
 
-  next_row : IsTrue told → (o : calls.Outcome) → o ≡ answered (answer.Number (remaining (one_more (staged_progress s))))
+  next_row : IsTrue told → (o : calls.Outcome) → o
+      ≡ answered (answer.Number (remaining (one_more (staged_progress s))))
       (record r { stage = worlds.updating (one_more (staged_progress s)) })
-      → HasRow rules answers b.app now call.UpdateNext r o
+      → HasRow converters b.app now call.UpdateNext r o
   unfolding app_step
   next_row tells o is_o = is_o ∙ sym (ap (λ (row : Result calls.Outcome PerError). concluded r row) (next_is tells))
 
@@ -277,21 +285,22 @@ module _ (told : Bool) (rules : List Rule) (answers : Answers) (now : ℕ) (b : 
 
   commit_row : IsTrue told → (o : calls.Outcome) → o ≡ answered answer.Done
       (record r { disk = updated_app (staged_progress s) r.disk; stage = worlds.at_rest })
-      → HasRow rules answers b.app now call.UpdateCommit r o
+      → HasRow converters b.app now call.UpdateCommit r o
   unfolding app_step
-  commit_row tells o is_o = is_o ∙ sym (ap (λ (row : Result calls.Outcome PerError). concluded r row) (commit_is tells))
+  commit_row tells o is_o = is_o ∙ sym
+      (ap (λ (row : Result calls.Outcome PerError). concluded r row) (commit_is tells))
 
   commit_reaches : IsTrue told → IsTrue (reaches_device b.app r now call.UpdateCommit)
   unfolding app_step
   commit_reaches tells = ap (λ (row : Result calls.Outcome PerError). is_ok row) (commit_is tells)
 
   pub abort_row : IsTrue told → (o : calls.Outcome) → o ≡ answered answer.Done (record r { stage = worlds.at_rest })
-      → HasRow rules answers b.app now call.UpdateAbort r o
+      → HasRow converters b.app now call.UpdateAbort r o
   unfolding app_step
   abort_row tells o is_o = is_o ∙ sym (ap (λ (row : Result calls.Outcome PerError). concluded r row) (abort_is tells))
 
   -- an install is refused
-  pub install_row : (text : List ℕ) → IsTrue told → HasRow rules answers b.app now (call.Install text) r
+  pub install_row : (text : List ℕ) → IsTrue told → HasRow converters b.app now (call.Install text) r
       (reply_of (Some error.AlreadyInstalled), r)
   unfolding app_step
   install_row text tells = sym (ap (λ (row : Result App PerError). concluded r (done_with r row))
@@ -304,73 +313,74 @@ module _ (told : Bool) (rules : List Rule) (answers : Answers) (now : ℕ) (b : 
   -- a step that failed: it leads to this application, or nowhere
   module _ (c : Call) (after' : Running) (app : after'.app ≡ b.app) (stage : after'.stage ≡ ToOpen)
       (same_slots : NoneOpen after'.slots) (next : App)
-      (leads : IsTrue told → MayLead rules answers b.app now c r next) (later : IsTrue told → IsLater r.disk next)
+      (leads : IsTrue told → MayLead converters b.app now c r next) (later : IsTrue told → IsLater r.disk next)
       (calls : IsTrue told → CallsTo b.app next old new)
       (reaches : IsTrue told → IsTrue (reaches_device b.app r now c)) (no_storage : device_storage c ≡ None)
       (not_durable : is_durable c ≡ false) (no_plan : only_plans c ≡ false) (uses : uses_device r.disk c ≡ true)
       (free : beside_update (worlds.update_in r.stage) c ≡ None) (time : Elapses old new)
-      (within : IsTrue told → IsCallWithin rules answers b.app now r c (bytes_now old) (bytes_now new)) where
-    pub failed_step : (e : Stop) → (e ≡ stop.Device → Rose old.faults new.faults)
-        → (e ≡ stop.OutOfMemory → new.faults ≡ old.faults)
-        → Promises told rules answers now c before after' Untouched old new (Err e)
-    failed_step stop.Device cause fed = record {
-      app = app;
-      memory = λ fed. marked_running told new.image b after' below app stage same_slots;
-      answered = λ tells. tt;
-      failed = λ tells bad. record {
-        reaches = reaches tells;
-        next = next;
-        leads = leads tells;
-        later = later tells;
-        is_after = failed_app new.image b after' r app stage same_slots
-            ∙ ap (λ f. after_failure (app_at new.image b.app) r f) (sym (none_found r c no_storage));
-        calls = calls tells;
-      };
-      stopped = λ tells bad. absurd cc;
-      quiet = λ quiet. tt;
-      idle = λ tells calm. absurd (true≢false (sym uses ∙ calm));
-      unwritten = tt;
-      looks = λ plans. absurd (true≢false (sym plans ∙ no_plan));
-      written = λ tells durable. absurd (true≢false (sym durable ∙ not_durable));
-      within = within;
-      place = λ tells. names_none b.app c r no_storage old.image new.image;
-      cause = λ bad. cause refl;
-      fed = λ bad. absurd cc;
-      passes = tt;
-      unfailed = tt;
-      text = tt;
-      time = time;
-    }
-    failed_step stop.OutOfMemory cause fed = record {
-      app = app;
-      memory = λ fed. absurd (fed refl);
-      answered = λ tells. tt;
-      failed = λ tells bad. absurd cc;
-      stopped = λ tells bad. record {
-        needs = record { free = free; needs = inl (inl (reaches tells)) };
-        next = next;
-        leads = leads tells;
-        later = later tells;
-        calls = calls tells;
-      };
-      quiet = λ quiet. tt;
-      idle = λ tells calm. absurd (true≢false (sym uses ∙ calm));
-      unwritten = tt;
-      looks = λ plans. absurd (true≢false (sym plans ∙ no_plan));
-      written = λ tells durable. absurd (true≢false (sym durable ∙ not_durable));
-      within = within;
-      place = λ tells. names_none b.app c r no_storage old.image new.image;
-      cause = λ bad. absurd cc;
-      fed = λ bad. fed refl;
-      passes = tt;
-      unfailed = tt;
-      text = tt;
-      time = time;
-    }
+      (within : IsTrue told → IsCallWithin converters (application_at b.app now r) c (bytes_now old) (bytes_now new))
+    where
+      pub failed_step : (e : Stop) → (e ≡ stop.Device → Rose old.faults new.faults)
+          → (e ≡ stop.OutOfMemory → new.faults ≡ old.faults)
+          → Promises told converters now c before after' Untouched old new (Err e)
+      failed_step stop.Device cause fed = record {
+        app = app;
+        memory = λ fed. marked_running told new.image b after' below app stage same_slots;
+        answered = λ tells. tt;
+        failed = λ tells bad. record {
+          reaches = reaches tells;
+          next = next;
+          leads = leads tells;
+          later = later tells;
+          is_after = failed_app new.image b after' r app stage same_slots
+              ∙ ap (λ f. after_failure (app_at new.image b.app) r f) (sym (none_found r c no_storage));
+          calls = calls tells;
+        };
+        stopped = λ tells bad. absurd cc;
+        quiet = λ quiet. tt;
+        idle = λ tells calm. absurd (true≢false (sym uses ∙ calm));
+        unwritten = tt;
+        looks = λ plans. absurd (true≢false (sym plans ∙ no_plan));
+        written = λ tells durable. absurd (true≢false (sym durable ∙ not_durable));
+        within = within;
+        place = λ tells. names_none b.app c r no_storage old.image new.image;
+        cause = λ bad. cause refl;
+        fed = λ bad. absurd cc;
+        passes = tt;
+        unfailed = tt;
+        text = tt;
+        time = time;
+      }
+      failed_step stop.OutOfMemory cause fed = record {
+        app = app;
+        memory = λ fed. absurd (fed refl);
+        answered = λ tells. tt;
+        failed = λ tells bad. absurd cc;
+        stopped = λ tells bad. record {
+          needs = record { free = free; needs = inl (inl (reaches tells)) };
+          next = next;
+          leads = leads tells;
+          later = later tells;
+          calls = calls tells;
+        };
+        quiet = λ quiet. tt;
+        idle = λ tells calm. absurd (true≢false (sym uses ∙ calm));
+        unwritten = tt;
+        looks = λ plans. absurd (true≢false (sym plans ∙ no_plan));
+        written = λ tells durable. absurd (true≢false (sym durable ∙ not_durable));
+        within = within;
+        place = λ tells. names_none b.app c r no_storage old.image new.image;
+        cause = λ bad. absurd cc;
+        fed = λ bad. fed refl;
+        passes = tt;
+        unfailed = tt;
+        text = tt;
+        time = time;
+      }
 
   -- one that ended well: its reply is no refusal
   module _ (c : Call) (stage : Stage) (reply : Reply) (row : IsTrue told
-      → HasRow rules answers b.app now c r (
+      → HasRow converters b.app now c r (
         reply,
         record {
           disk = app_at new.image b.app;
@@ -387,28 +397,29 @@ module _ (told : Bool) (rules : List Rule) (answers : Answers) (now : ℕ) (b : 
       (text : HasText reply.answer)
       (not_durable : is_durable c ≡ false) (no_plan : only_plans c ≡ false) (no_storage : device_storage c ≡ None)
       (uses : uses_device r.disk c ≡ true) (passes : new.faults ≡ old.faults) (time : Elapses old new)
-      (within : IsTrue told → IsCallWithin rules answers b.app now r c (bytes_now old) (bytes_now new)) where
-    pub done_step : Promises told rules answers now c before (record b { stage = stage }) Untouched old new (Ok reply)
-    done_step = record {
-      app = refl;
-      memory = λ fed. record { below = below; stage_at = is_after };
-      answered = λ tells. record { row = row tells; later = later tells; calls = calls tells; clean = clean tells };
-      failed = λ tells bad. absurd cc;
-      stopped = λ tells bad. absurd cc;
-      quiet = quiet;
-      idle = λ tells calm. absurd (true≢false (sym uses ∙ calm));
-      unwritten = λ refused. absurd (true≢false (sym refused ∙ done));
-      looks = λ plans. absurd (true≢false (sym plans ∙ no_plan));
-      written = λ tells durable. absurd (true≢false (sym durable ∙ not_durable));
-      within = within;
-      place = λ tells. names_none b.app c r no_storage old.image new.image;
-      cause = λ bad. absurd cc;
-      fed = λ bad. absurd cc;
-      passes = passes;
-      unfailed = sound;
-      text = text;
-      time = time;
-    }
+      (within : IsTrue told → IsCallWithin converters (application_at b.app now r) c (bytes_now old) (bytes_now new))
+    where
+      pub done_step : Promises told converters now c before (record b { stage = stage }) Untouched old new (Ok reply)
+      done_step = record {
+        app = refl;
+        memory = λ fed. record { below = below; stage_at = is_after };
+        answered = λ tells. record { row = row tells; later = later tells; calls = calls tells; clean = clean tells };
+        failed = λ tells bad. absurd cc;
+        stopped = λ tells bad. absurd cc;
+        quiet = quiet;
+        idle = λ tells calm. absurd (true≢false (sym uses ∙ calm));
+        unwritten = λ refused. absurd (true≢false (sym refused ∙ done));
+        looks = λ plans. absurd (true≢false (sym plans ∙ no_plan));
+        written = λ tells durable. absurd (true≢false (sym durable ∙ not_durable));
+        within = within;
+        place = λ tells. names_none b.app c r no_storage old.image new.image;
+        cause = λ bad. absurd cc;
+        fed = λ bad. absurd cc;
+        passes = passes;
+        unfailed = sound;
+        text = text;
+        time = time;
+      }
 
   -- ---- one more storage
 
@@ -419,19 +430,23 @@ module _ (told : Bool) (rules : List Rule) (answers : Answers) (now : ℕ) (b : 
   pub next_written : new.written ≤ old.written
       + making_costs (take 1 (drop (staged_progress s).built (staged_progress s).deployment.storages))
       (drop (staged_progress s).built (staged_progress s).contents)
-      → Leaves told (making.IsInNone (take 1 (drop (staged_progress s).built (shapes_in b.app (offered_in s))))) old new
-      → IsTrue told → IsCallWithin rules answers b.app now r call.UpdateNext (bytes_now old) (bytes_now new)
-  next_written cost leaves tells = next_within told rules answers b.app now r old new tells s refl (says_here tells) cost
+      → Leaves told (making.IsInNone (take 1 (drop (staged_progress s).built (shapes_in b.app (offered_in s))))) old
+      new
+      → IsTrue told → IsCallWithin converters (application_at b.app now r) call.UpdateNext (bytes_now old)
+      (bytes_now new)
+  next_written cost leaves tells = next_within told converters b.app now r old new tells s refl (says_here tells) cost
       leaves
 
   pub next_failed : (e : Stop) (after' : Running) → after' ≡ record b { stage = ToOpen }
       → (e ≡ stop.Device → Rose old.faults new.faults) → (e ≡ stop.OutOfMemory → new.faults ≡ old.faults)
       → (IsTrue told → CallsTo b.app r.disk old new) → Elapses old new
-      → (IsTrue told → IsCallWithin rules answers b.app now r call.UpdateNext (bytes_now old) (bytes_now new))
-      → Promises told rules answers now call.UpdateNext before after' Untouched old new (Err e)
+      → (IsTrue told → IsCallWithin converters (application_at b.app now r) call.UpdateNext (bytes_now old)
+      (bytes_now new))
+      → Promises told converters now call.UpdateNext before after' Untouched old new (Err e)
   next_failed e after' is_after cause fed calls time within = failed_step call.UpdateNext after'
       (ap (λ (x : Running). x.app) is_after) (ap (λ (x : Running). x.stage) is_after)
-      (subst (λ (x : Running). NoneOpen x.slots) (sym is_after) none) r.disk (λ tells. inl refl) (λ tells. still r.disk)
+      (subst (λ (x : Running). NoneOpen x.slots) (sym is_after) none) r.disk (λ tells. inl refl)
+      (λ tells. still r.disk)
       calls next_reaches refl refl refl refl refl time within e cause fed
 
   pub next_done : (t : Staged) (count : ℕ) → staged_progress t ≡ one_more (staged_progress s)
@@ -439,8 +454,9 @@ module _ (told : Bool) (rules : List Rule) (answers : Answers) (now : ℕ) (b : 
       → (IsTrue told → app_at new.image b.app ≡ r.disk)
       → (IsTrue told → CallsTo b.app r.disk old new) → (IsTrue told → IsCleanApp b.app old.image
       → IsCleanApp b.app new.image) → (Quiet old → Quiet new) → new.faults ≡ old.faults → Elapses old new
-      → (IsTrue told → IsCallWithin rules answers b.app now r call.UpdateNext (bytes_now old) (bytes_now new))
-      → Promises told rules answers now call.UpdateNext before (record b { stage = Updating t }) Untouched old new
+      → (IsTrue told → IsCallWithin converters (application_at b.app now r) call.UpdateNext (bytes_now old)
+      (bytes_now new))
+      → Promises told converters now call.UpdateNext before (record b { stage = Updating t }) Untouched old new
       (Ok (reply_with (answer.Number count)))
   next_done t count progress counts at same calls clean quiet passes time within =
       done_step call.UpdateNext (Updating t) (reply_with (answer.Number count))
@@ -474,9 +490,11 @@ module _ (told : Bool) (rules : List Rule) (answers : Answers) (now : ℕ) (b : 
       + (making_costs (drop (staged_progress s).built (staged_progress s).deployment.storages)
       (drop (staged_progress s).built (staged_progress s).contents)
       + root_cost (staged_text s ∷ root_texts (staged_root s)))
-      → Leaves told (making.IsBesideMade b.app (drop (staged_progress s).built (shapes_in b.app (offered_in s)))) old new
-      → IsTrue told → IsCallWithin rules answers b.app now r call.UpdateCommit (bytes_now old) (bytes_now new)
-  commit_written keeps cost leaves tells = commit_within told rules answers b.app now r old new tells s refl
+      → Leaves told (making.IsBesideMade b.app (drop (staged_progress s).built (shapes_in b.app (offered_in s)))) old
+      new
+      → IsTrue told → IsCallWithin converters (application_at b.app now r) call.UpdateCommit (bytes_now old)
+      (bytes_now new)
+  commit_written keeps cost leaves tells = commit_within told converters b.app now r old new tells s refl
       (says_here tells) (keeps tells) cost leaves
 
   module _ (update_later : UpdateLaterLaw) where
@@ -486,8 +504,9 @@ module _ (told : Bool) (rules : List Rule) (answers : Answers) (now : ℕ) (b : 
     pub commit_failed : (e : Stop) (after' : Running) → after' ≡ record b { stage = ToOpen }
         → (e ≡ stop.Device → Rose old.faults new.faults) → (e ≡ stop.OutOfMemory → new.faults ≡ old.faults)
         → (IsTrue told → CallsTo b.app next old new) → Elapses old new
-        → (IsTrue told → IsCallWithin rules answers b.app now r call.UpdateCommit (bytes_now old) (bytes_now new))
-        → Promises told rules answers now call.UpdateCommit before after' Untouched old new (Err e)
+        → (IsTrue told → IsCallWithin converters (application_at b.app now r) call.UpdateCommit (bytes_now old)
+        (bytes_now new))
+        → Promises told converters now call.UpdateCommit before after' Untouched old new (Err e)
     commit_failed e after' is_after cause fed calls time within = failed_step call.UpdateCommit after'
         (ap (λ (x : Running). x.app) is_after) (ap (λ (x : Running). x.stage) is_after)
         (subst (λ (x : Running). NoneOpen x.slots) (sym is_after) none) next
@@ -503,8 +522,9 @@ module _ (told : Bool) (rules : List Rule) (answers : Answers) (now : ℕ) (b : 
         → (IsTrue told → CallsTo b.app next old new)
         → (IsTrue told → IsCleanApp b.app old.image → IsCleanApp b.app new.image) → (Quiet old → Quiet new)
         → new.faults ≡ old.faults → Elapses old new
-        → (IsTrue told → IsCallWithin rules answers b.app now r call.UpdateCommit (bytes_now old) (bytes_now new))
-        → Promises told rules answers now call.UpdateCommit before (record b { stage = AtRest root }) Untouched old new
+        → (IsTrue told → IsCallWithin converters (application_at b.app now r) call.UpdateCommit (bytes_now old)
+        (bytes_now new))
+        → Promises told converters now call.UpdateCommit before (record b { stage = AtRest root }) Untouched old new
         (Ok (reply_with answer.Done))
     commit_done root at is_next calls clean quiet passes time within =
         done_step call.UpdateCommit (AtRest root) (reply_with answer.Done)
@@ -517,24 +537,25 @@ module _ (told : Bool) (rules : List Rule) (answers : Answers) (now : ℕ) (b : 
           root_at = at;
           open_on = open_by_none told new.image b.app (root_says root) b.slots none;
         })
-        (λ tells. subst (λ (a : App). IsLater r.disk a) (sym (is_next tells)) (update_later (staged_progress s) r.disk))
+        (λ tells. subst (λ (a : App). IsLater r.disk a) (sym (is_next tells))
+        (update_later (staged_progress s) r.disk))
         (λ tells. subst (λ (a : App). CallsTo b.app a old new) (sym (is_next tells)) (calls tells)) clean quiet refl
         (λ e. cc) tt refl refl refl refl passes time within
 
 -- ---- an install beside an update
 
-pub install_refused : (told : Bool) (rules : List Rule) (answers : Answers) (now : ℕ) (text : List ℕ) (b : Running)
+pub install_refused : (told : Bool) (converters : Converters) (now : ℕ) (text : List ℕ) (b : Running)
     (m : Medium) → IsLawful told m → UntouchedAppLaw → (Untouched : Type 0) → Untouched
     → IsRunning told m.image b → RootInUseLaw → (s : Staged) → b.stage ≡ Updating s → (reply : Reply)
     → reply ≡ reply_with (answer.Error error.AlreadyInstalled)
-    → Promises told rules answers now (call.Install text) b b Untouched m m (Ok reply)
-install_refused told rules answers now text b m lawful untouched Untouched same is in_use s stage_is reply is_reply =
+    → Promises told converters now (call.Install text) b b Untouched m m (Ok reply)
+install_refused told converters now text b m lawful untouched Untouched same is in_use s stage_is reply is_reply =
     let at = staged_at told m.image b.app b.slots b.stage s stage_is is.stage_at in
     let back = update_back b s stage_is in
-    subst (λ (x : Reply). Promises told rules answers now (call.Install text) b b Untouched m m (Ok x)) (sym is_reply)
-    (idle_promises told rules answers now (call.Install text) b m lawful untouched Untouched same is b.stage
+    subst (λ (x : Reply). Promises told converters now (call.Install text) b b Untouched m m (Ok x)) (sym is_reply)
+    (idle_promises told converters now (call.Install text) b m lawful untouched Untouched same is b.stage
     (reply_of (Some error.AlreadyInstalled)) is
-    (λ tells. subst (λ (x : Running). HasRow rules answers b.app now (call.Install text) (application m.image x)
+    (λ tells. subst (λ (x : Running). HasRow converters b.app now (call.Install text) (application m.image x)
     (reply_of (Some error.AlreadyInstalled), application m.image x)) back
-    (install_row told rules answers now b s m m Untouched at.0 is.below at.1 in_use text tells))
+    (install_row told converters now b s m m Untouched at.0 is.below at.1 in_use text tells))
     (λ e. cc) refl)

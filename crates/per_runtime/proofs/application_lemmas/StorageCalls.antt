@@ -2,7 +2,6 @@
 use Rattle.std.proofs.Common.{◌≡◌, ℕ, List, Bool, true, false, IsTrue, Option, Some, None, IfOk}
 use Rattle.std.proofs.Common.{Result, Ok, Err, refl, sym, subst, inl, inr, true≢false}
 use Rattle.disk_model.specs.Medium.{Medium}
-use Rattle.migrate_fns.specs.Rules.{Answers, Rule}
 use Rattle.command_text.specs.declared.calls.Call.{Call}
 use Rattle.command_text.specs.declared.calls.Call.TheVariants as call
 use Rattle.command_text.specs.declared.replies.Reply.{Reply}
@@ -11,12 +10,13 @@ use Rattle.deploy.specs.declared.roots.Root.{Root}
 use Rattle.deploy_laws.specs.Apps.{App, app_at}
 use Rattle.deploy_laws.specs.Stands.{IsLater}
 use Rattle.run_model.specs.Calls.{CallStep, Outcome, app_step, concluded}
+use Rattle.run_model.specs.Converters.{Converters}
 use Rattle.run_model.specs.Runtimes.{IsUnwritten, only_plans}
 use Rattle.run_model.specs.Steps.{device_storage, uses_device}
 use Rattle.run_model.specs.Turns.{bytes_now}
 use Rattle.run_model.specs.WriteLaws.{call_named, call_unwritten}
 use Rattle.run_model.specs.Writes.{IsCallWithin}
-use Rattle.run_model.specs.Worlds.{Application}
+use Rattle.run_model.specs.Worlds.{Application, application_at}
 use Rattle.per_runtime.specs.declared.storages.slots.OpenSlots.{OpenSlots}
 use Rattle.per_runtime.specs.storages.Answers.{is_on_storage}
 use Rattle.per_runtime.specs.storages.Answers as stored
@@ -31,11 +31,12 @@ use Rattle.per_runtime.proofs.storage_lemmas.Handled.{quiet_of, stopped_of, text
 use Rattle.per_runtime.proofs.application_lemmas.LeadOn.{still}
 
 -- a call that names a storage begins no update
-call_step : (rules : List Rule) (answers : Answers) (app now : ℕ) (r : Application) (c : Call) (o : Outcome)
-    → IsTrue (is_on_storage c) → o ≡ concluded r (app_step app r now c) → CallStep rules answers app now r c o
-call_step rules answers app now r (call.Update text) o on row = absurd cc
-call_step rules answers app now r (call.UpdateBegin text) o on row = absurd cc
-call_step rules answers app now r other o on row = row
+call_step : (converters : Converters) (app now : ℕ) (r : Application) (c : Call) (o : Outcome)
+    → IsTrue (is_on_storage c) → o ≡ concluded r (app_step app r now c)
+    → CallStep converters (application_at app now r) c o
+call_step converters app now r (call.Update text) o on row = absurd cc
+call_step converters app now r (call.UpdateBegin text) o on row = absurd cc
+call_step converters app now r other o on row = row
 
 -- and plans none
 no_plan : (c : Call) → IsTrue (is_on_storage c) → only_plans c ≡ true → ⊥
@@ -69,13 +70,13 @@ on_each P Q (Ok x) each is = each x is
 on_each P Q (Err e) each is = tt
 
 -- every row leads on
-abbrev pub LeadsOn : List Rule → Answers → Type 0
-LeadsOn rules answers = (app now : ℕ) (c : Call) (r : Application) (o : Outcome) → HasRow rules answers app now c r o
+abbrev pub LeadsOn : Converters → Type 0
+LeadsOn converters = (app now : ℕ) (c : Call) (r : Application) (o : Outcome) → HasRow converters app now c r o
     → IsLater r.disk o.1.disk
 
-module _ (told : Bool) (rules : List Rule) (answers : Answers) (now : ℕ) (c : Call) (b : Running) (root : Root)
+module _ (told : Bool) (converters : Converters) (now : ℕ) (c : Call) (b : Running) (root : Root)
     (slots : OpenSlots) (Untouched : Type 0) (old new : Medium) (result : Result Reply Stop)
-    (unwritten : Untouched → IsUnwritten old new) (on : IsTrue (is_on_storage c)) (leads_on : LeadsOn rules answers)
+    (unwritten : Untouched → IsUnwritten old new) (on : IsTrue (is_on_storage c)) (leads_on : LeadsOn converters)
     (s : IsStorageCallHandled told b.app now root c b.slots slots old new Untouched result) where
   abbrev r : Application
   r = resting_with old.image b.app b.slots
@@ -83,10 +84,10 @@ module _ (told : Bool) (rules : List Rule) (answers : Answers) (now : ℕ) (c : 
   abbrev o : Outcome
   o = concluded r (app_step b.app r now c)
 
-  has_row : (x : Outcome) → x ≡ o → HasRow rules answers b.app now c r x
-  has_row x is = call_step rules answers b.app now r c x on is
+  has_row : (x : Outcome) → x ≡ o → HasRow converters b.app now c r x
+  has_row x is = call_step converters b.app now r c x on is
 
-  leads : (next : App) → stored.StorageCallMayLead b.app now c r next → MayLead rules answers b.app now c r next
+  leads : (next : App) → stored.StorageCallMayLead b.app now c r next → MayLead converters b.app now c r next
   leads next (inl same) = inl same
   leads next (inr is) = inr (o, has_row o refl, is)
 
@@ -96,7 +97,7 @@ module _ (told : Bool) (rules : List Rule) (answers : Answers) (now : ℕ) (c : 
 
   answers_it : (reply : Reply) → stored.IsStorageCallAnswered b.app now c r
       (resting_with new.image b.app slots) reply old new
-      → IsAnswered rules answers b.app now c r (resting_with new.image b.app slots) reply old new
+      → IsAnswered converters b.app now c r (resting_with new.image b.app slots) reply old new
   answers_it reply is = record {
     row = has_row (reply, resting_with new.image b.app slots) is.row;
     later = leads_on b.app now c r (reply, resting_with new.image b.app slots)
@@ -106,13 +107,13 @@ module _ (told : Bool) (rules : List Rule) (answers : Answers) (now : ℕ) (c : 
   }
 
   within_by : (named : Option (List ℕ)) → device_storage c ≡ named → IsTrue told
-      → IsCallWithin rules answers b.app now r c (bytes_now old) (bytes_now new)
-  within_by (Some name) is tells = call_named rules answers b.app now r c name (bytes_now old) (bytes_now new) is
+      → IsCallWithin converters (application_at b.app now r) c (bytes_now old) (bytes_now new)
+  within_by (Some name) is tells = call_named converters b.app now r c name (bytes_now old) (bytes_now new) is
       (s.costs tells) (s.place tells) (s.missing tells)
   within_by None is tells = let same = unwritten (s.idle tells (stays_off (app_at old.image b.app) c on is)) in
-      call_unwritten rules answers b.app now r c (bytes_now old) (bytes_now new) same.0 same.1
+      call_unwritten converters b.app now r c (bytes_now old) (bytes_now new) same.0 same.1
 
-  pub stored_promises : Promises told rules answers now c (record b { stage = AtRest root })
+  pub stored_promises : Promises told converters now c (record b { stage = AtRest root })
       (record b { stage = AtRest root; slots = slots }) Untouched old new result
   stored_promises = record {
     app = refl;

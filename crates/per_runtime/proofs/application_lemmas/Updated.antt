@@ -9,7 +9,6 @@ use Rattle.per_base.specs.declared.errors.PerError.TheVariants as error
 use Rattle.disk_model.specs.Image.{Image}
 use Rattle.disk_model.specs.Medium.{Elapses, IsIdle, Medium, Quiet}
 use Rattle.element_state.specs.States.{State, store_at}
-use Rattle.migrate_fns.specs.Rules.{Answers, Rule}
 use Rattle.command_text.specs.declared.calls.Call.{Call}
 use Rattle.command_text.specs.declared.calls.Call.TheVariants as call
 use Rattle.command_text.specs.declared.replies.Answer.TheVariants as answer
@@ -39,11 +38,12 @@ use Rattle.deploy_rows.specs.Rows.{◌>>=◌, BeginsUpdate, BeginsWith, InProgre
 use Rattle.deploy_rows.specs.Rows.{offer_over, offered, updated_app}
 use Rattle.run_model.specs.Calls.{active_storages, answered, first_open, least_open, concluded}
 use Rattle.run_model.specs.Calls.{with_update}
+use Rattle.run_model.specs.Converters.{Converters}
 use Rattle.run_model.specs.Costs.{update_cost}
 use Rattle.run_model.specs.Runtimes.{IsUnwritten, is_refusal}
 use Rattle.run_model.specs.Turns.{bytes_now}
 use Rattle.run_model.specs.WriteLaws.{call_opened, call_unwritten}
-use Rattle.run_model.specs.Worlds.{Application}
+use Rattle.run_model.specs.Worlds.{Application, application_at}
 use Rattle.run_model.specs.Worlds as worlds
 use Rattle.run_model.specs.Writes.{CostsUpdate, IsCallWithin, IsInNone, next_bank}
 use Rattle.per_runtime.specs.storages.Answers.{CallsTo}
@@ -71,30 +71,32 @@ offer_by busy text g active (Some previous) o is = absurd cc
 offer_by None text g active None o is = refl
 offer_by (Some name) text g active None o is = absurd cc
 
-offer_says : (busy : Option (List ℕ)) (text : List ℕ) (says : Says) (lacking : List ℕ) (states : List State) (o : Offer)
+offer_says : (busy : Option (List ℕ)) (text : List ℕ) (says : Says) (lacking : List ℕ) (states : List State)
+    (o : Offer)
     → offered busy text (record { says = says; lacking = lacking; states = states }) ≡ Ok o → busy ≡ None
 unfolding offered
 offer_says busy text nothing lacking states o is = absurd cc
 offer_says busy text (absent g) lacking states o is = absurd cc
 offer_says busy text (installed g active previous) lacking states o is = offer_by busy text g active previous o is
 
-begins_by : (rules : List Rule) (answers : Answers) (now : ℕ) (busy : Option (List ℕ)) (text : List ℕ) (a : App)
+begins_by : (converters : Converters) (now : ℕ) (busy : Option (List ℕ)) (text : List ℕ) (a : App)
     (p : InProgress) (offer : Result Offer PerError) → offered busy text a ≡ offer
-    → BeginsWith rules answers now a.states offer (Ok p) → busy ≡ None
-begins_by rules answers now busy text a p (Ok o) is begins = offer_says busy text a.says a.lacking a.states o is
-begins_by rules answers now busy text a p (Err e) is begins = absurd cc
+    → BeginsWith converters.rules converters.answers now a.states offer (Ok p) → busy ≡ None
+begins_by converters now busy text a p (Ok o) is begins = offer_says busy text a.says a.lacking a.states o is
+begins_by converters now busy text a p (Err e) is begins = absurd cc
 
 -- no storage is open where an update begins
-pub begins_free : (rules : List Rule) (answers : Answers) (now : ℕ) (busy : Option (List ℕ)) (text : List ℕ) (a : App)
-    (p : InProgress) → BeginsUpdate rules answers now busy text a (Ok p) → busy ≡ None
-begins_free rules answers now busy text a p begins = begins_by rules answers now busy text a p (offered busy text a)
+pub begins_free : (converters : Converters) (now : ℕ) (busy : Option (List ℕ)) (text : List ℕ) (a : App)
+    (p : InProgress) → BeginsUpdate converters.rules converters.answers now busy text a (Ok p) → busy ≡ None
+begins_free converters now busy text a p begins = begins_by converters now busy text a p (offered busy text a)
     refl begins
 
 -- what `update` promises
-pub record Updates (told : Bool) (rules : List Rule) (answers : Answers) (now : ℕ) (text : List ℕ) (app : ℕ)
+pub record Updates (told : Bool) (converters : Converters) (now : ℕ) (text : List ℕ) (app : ℕ)
     (root : Root) (busy : Option (List ℕ)) (old new : Medium) (made : Result Outcome Stop) : Type 0 where
   pub root_at : IfOk made (λ o. RootAt told new.image app o.root)
-  pub updates : IfOk made (IsUpdated told (BeginsUpdate rules answers now busy text) app old.image new.image root)
+  pub updates : IfOk made
+      (IsUpdated told (BeginsUpdate converters.rules converters.answers now busy text) app old.image new.image root)
   pub clean : IsTrue told → IfOk made (λ o. IsCleanApp app old.image → IsCleanApp app new.image)
   pub quiet : Quiet old → OnOk made (Quiet new)
   pub unchanged : IfOk made (λ o. (o.refused ≡ None → ⊥)
@@ -106,8 +108,11 @@ pub record Updates (told : Bool) (rules : List Rule) (answers : Answers) (now : 
   pub outside : Leaves told (IsBesideNext app (free_bank root)) old new
   pub places : Leaves told (making.IsBesideMade app (shapes_from app (free_bank root) 0 (storages_said text))) old
       new
-  pub written : making.WritesUpdate told (BeginsUpdate rules answers now busy text) app root text old new
-  pub any_moment : IsTrue told → LeadsTo app (rows.UpdateMayLead rules answers now busy text (app_at old.image app))
+  pub written : making.WritesUpdate told (BeginsUpdate converters.rules converters.answers now busy text) app root
+      text
+      old new
+  pub any_moment : IsTrue told
+      → LeadsTo app (rows.UpdateMayLead converters.rules converters.answers now busy text (app_at old.image app))
       made old
       new
   pub time : Elapses old new
@@ -119,7 +124,7 @@ free_low (roots.Installed i) = omega arith
 
 -- ---- over an application at rest
 
-module _ (told : Bool) (rules : List Rule) (answers : Answers) (now : ℕ) (text : List ℕ) (b : Running) (root : Root)
+module _ (told : Bool) (converters : Converters) (now : ℕ) (text : List ℕ) (b : Running) (root : Root)
     (old new : Medium) (Untouched : Type 0)
     (resting : IsResting told old.image b.app root b.slots) (in_use : RootInUseLaw)
     (alike : (busy : Option (List ℕ)) (text : List ℕ) → RefusesAlike (offered busy text)) (busy : Option (List ℕ))
@@ -146,11 +151,12 @@ module _ (told : Bool) (rules : List Rule) (answers : Answers) (now : ℕ) (text
       (sym theirs ∙ ap (λ (a : App). a.states) (disk_is tells)) ∙ sym (disk_is tells)
 
   begins_there : IsTrue told → (states : List State) (row : Result InProgress PerError) → r.disk.states ≡ states
-      → BeginsUpdate rules answers now busy text (root_app root states) row
-      → BeginsUpdate rules answers now (least_open r) text r.disk row
+      → BeginsUpdate converters.rules converters.answers now busy text (root_app root states) row
+      → BeginsUpdate converters.rules converters.answers now (least_open r) text r.disk row
   begins_there tells states row theirs begins = subst (λ (n : Option (List ℕ)).
-      BeginsUpdate rules answers now n text r.disk row) (busy_least tells)
-      (subst (λ (a : App). BeginsUpdate rules answers now busy text a row) (over_disk tells states theirs) begins)
+      BeginsUpdate converters.rules converters.answers now n text r.disk row) (busy_least tells)
+      (subst (λ (a : App). BeginsUpdate converters.rules converters.answers now busy text a row)
+      (over_disk tells states theirs) begins)
 
   taken_there : IsTrue told → IsOk (offered busy text (root_app root []))
       → is_ok (offered (least_open r) text r.disk) ≡ true
@@ -163,8 +169,10 @@ module _ (told : Bool) (rules : List Rule) (answers : Answers) (now : ℕ) (text
   -- ---- what is written
 
   module _ (keeps : manifests_at old.image b.app ≡ root_texts root) (tells : IsTrue told) where
-    costs_by : making.WritesUpdate told (BeginsUpdate rules answers now busy text) b.app root text old new
-        → CostsUpdate rules answers now (manifests_at old.image b.app) r text old.written new.written
+    costs_by : making.WritesUpdate told (BeginsUpdate converters.rules converters.answers now busy text) b.app root
+        text old new
+        → CostsUpdate converters (application_at b.app now r) (manifests_at old.image b.app) text old.written
+        new.written
     costs_by (inl none) = inl (omega (arith, none))
     costs_by (inr begun) =
         let p = begun.1 in
@@ -177,10 +185,11 @@ module _ (told : Bool) (rules : List Rule) (answers : Answers) (now : ℕ) (text
     bank_is : next_bank r.disk.says ≡ free_bank root
     bank_is = ap next_bank (sym (says_same tells)) ∙ same_bank root
 
-    within_by : making.WritesUpdate told (BeginsUpdate rules answers now busy text) b.app root text old new
+    within_by : making.WritesUpdate told (BeginsUpdate converters.rules converters.answers now busy text) b.app root
+        text old new
         → Leaves told (making.IsBesideMade b.app (shapes_from b.app (free_bank root) 0 (storages_said text))) old new
-        → IsCallWithin rules answers b.app now r (call.Update text) (bytes_now old) (bytes_now new)
-    within_by cost leaves = call_opened rules answers b.app now r (call.Update text) (bytes_now old) (bytes_now new)
+        → IsCallWithin converters (application_at b.app now r) (call.Update text) (bytes_now old) (bytes_now new)
+    within_by cost leaves = call_opened converters b.app now r (call.Update text) (bytes_now old) (bytes_now new)
         (costs_by cost) (λ file beside. leaves.at_the_end tells file (
           beside.0,
           subst (λ (bank : ℕ). IsInNone (shapes_from b.app bank 0 (storages_said text)) file) bank_is beside.1,
@@ -190,9 +199,9 @@ module _ (told : Bool) (rules : List Rule) (answers : Answers) (now : ℕ) (text
 
   -- of what an update may lead to
   updated_leads : (next : App) (row : Result InProgress PerError)
-      → BeginsUpdate rules answers now (least_open r) text r.disk row → next
+      → BeginsUpdate converters.rules converters.answers now (least_open r) text r.disk row → next
       ≡ after r.disk (rows.updated_row r.disk row)
-      → MayLead rules answers b.app now (call.Update text) r next
+      → MayLead converters b.app now (call.Update text) r next
   updated_leads next (Ok p) begins is = inr (
     answered answer.Done (record r { disk = updated_app p r.disk }),
     (Ok p, begins, refl),
@@ -201,16 +210,19 @@ module _ (told : Bool) (rules : List Rule) (answers : Answers) (now : ℕ) (text
   updated_leads next (Err e) begins is = inl is
 
   module _ (later : UpdateLaterLaw) where
-    updated_later : (next : App) (row : Result InProgress PerError) → next ≡ after r.disk (rows.updated_row r.disk row)
+    updated_later : (next : App) (row : Result InProgress PerError) → next
+        ≡ after r.disk (rows.updated_row r.disk row)
         → IsLater r.disk next
     updated_later next (Ok p) is = subst (λ (a : App). IsLater r.disk a) (sym is) (later p r.disk)
     updated_later next (Err e) is = subst (λ (a : App). IsLater r.disk a) (sym is) (still r.disk)
 
-    may_lead : IsTrue told → (next : App) → rows.UpdateMayLead rules answers now busy text r.disk next
-        → MayLead rules answers b.app now (call.Update text) r next × IsLater r.disk next
+    may_lead : IsTrue told → (next : App)
+        → rows.UpdateMayLead converters.rules converters.answers now busy text r.disk next
+        → MayLead converters b.app now (call.Update text) r next × IsLater r.disk next
     may_lead tells next (inl same) = (inl same, subst (λ (a : App). IsLater r.disk a) (sym same) (still r.disk))
     may_lead tells next (inr leads) = (
-      updated_leads next leads.0 (subst (λ (n : Option (List ℕ)). BeginsUpdate rules answers now n text r.disk leads.0)
+      updated_leads next leads.0
+          (subst (λ (n : Option (List ℕ)). BeginsUpdate converters.rules converters.answers now n text r.disk leads.0)
           (busy_least tells) leads.1) leads.2,
       updated_later next leads.0 leads.2,
     )
@@ -225,12 +237,14 @@ module _ (told : Bool) (rules : List Rule) (answers : Answers) (now : ℕ) (text
     updated_row tells (Some e) a' (Err f) answers is = ap (λ (d : App). (reply_of (Some e), record r { disk = d })) is
         ∙ ap (λ (x : PerError). answered (answer.Error x) r) (sym answers)
 
-    module _ (o : Outcome) (u : Updates told rules answers now text b.app root busy old new (Ok o))
-        (within : IsTrue told → IsCallWithin rules answers b.app now r (call.Update text) (bytes_now old)
+    module _ (o : Outcome) (u : Updates told converters now text b.app root busy old new (Ok o))
+        (within : IsTrue told
+        → IsCallWithin converters (application_at b.app now r) (call.Update text) (bytes_now old)
         (bytes_now new)) where
       taken_free : (refused : Option PerError) (row : Result InProgress PerError) → rows.AnswersRow refused row
-          → refused ≡ None → BeginsUpdate rules answers now busy text (root_app root u.updates.states) row → busy ≡ None
-      taken_free None (Ok p) answers_row none begins = begins_free rules answers now busy text
+          → refused ≡ None → BeginsUpdate converters.rules converters.answers now busy text
+          (root_app root u.updates.states) row → busy ≡ None
+      taken_free None (Ok p) answers_row none begins = begins_free converters now busy text
           (root_app root u.updates.states) p begins
       taken_free None (Err e) answers_row none begins = absurd answers_row
       taken_free (Some e) row answers_row none begins = absurd cc
@@ -245,10 +259,11 @@ module _ (told : Bool) (rules : List Rule) (answers : Answers) (now : ℕ) (text
           (subst (λ (i : Image). AreOpenOn told i b.app (root_says root) b.slots) (sym same.0) resting.open_on)
 
       plain : (refused : Option PerError) → o.refused ≡ refused
-          → ((reply_of refused).answer ≢ answer.Error error.PhysicalStorageFailure) × HasText (reply_of refused).answer
+          → ((reply_of refused).answer ≢ answer.Error error.PhysicalStorageFailure)
+          × HasText (reply_of refused).answer
       plain None is = (λ e. cc, tt)
       plain (Some e) is =
-          let p = refused_plain u.updates.row e (begins_plain rules answers now busy text
+          let p = refused_plain u.updates.row e (begins_plain converters.rules converters.answers now busy text
           (root_app root u.updates.states) u.updates.row u.updates.begins)
           (subst (λ (x : Option PerError). rows.AnswersRow x u.updates.row) is u.updates.refused) in
           (p.sound, p.text)
@@ -266,7 +281,7 @@ module _ (told : Bool) (rules : List Rule) (answers : Answers) (now : ℕ) (text
           (λ f is. beside_next b.app (free_bank root) f resting.below (free_low root) is) u.outside
           leads.throughout)
 
-      done_promises : Promises told rules answers now (call.Update text) before (record b { stage = AtRest o.root })
+      done_promises : Promises told converters now (call.Update text) before (record b { stage = AtRest o.root })
           Untouched old new (Ok (reply_of o.refused))
       done_promises = record {
         app = refl;
@@ -305,17 +320,18 @@ module _ (told : Bool) (rules : List Rule) (answers : Answers) (now : ℕ) (text
 
     module _ (after' : Running) (app : after'.app ≡ b.app) (stage : after'.stage ≡ ToOpen)
         (none : NoneOpen after'.slots)
-        (within : IsTrue told → IsCallWithin rules answers b.app now r (call.Update text) (bytes_now old)
+        (within : IsTrue told
+        → IsCallWithin converters (application_at b.app now r) (call.Update text) (bytes_now old)
         (bytes_now new)) where
-      calls_next : (e : Stop) (u : Updates told rules answers now text b.app root busy old new (Err e))
+      calls_next : (e : Stop) (u : Updates told converters now text b.app root busy old new (Err e))
           (tells : IsTrue told) → CallsTo b.app (u.any_moment tells).next old new
       calls_next e u tells =
           let leads = u.any_moment tells in
           calls_to told b.app leads.next (IsBesideNext b.app (free_bank root)) old new tells
           (λ f is. beside_next b.app (free_bank root) f resting.below (free_low root) is) u.outside leads.throughout
 
-      device_promises : Updates told rules answers now text b.app root busy old new (Err stop.Device)
-          → Promises told rules answers now (call.Update text) before after' Untouched old new (Err stop.Device)
+      device_promises : Updates told converters now text b.app root busy old new (Err stop.Device)
+          → Promises told converters now (call.Update text) before after' Untouched old new (Err stop.Device)
       device_promises u = record {
         app = app;
         memory = λ fed. marked_running told new.image b after' resting.below app stage none;
@@ -345,8 +361,8 @@ module _ (told : Bool) (rules : List Rule) (answers : Answers) (now : ℕ) (text
       }
 
       memory_promises : no_update_over (root_says root) ≡ None
-          → Updates told rules answers now text b.app root busy old new (Err stop.OutOfMemory)
-          → Promises told rules answers now (call.Update text) before after' Untouched old new (Err stop.OutOfMemory)
+          → Updates told converters now text b.app root busy old new (Err stop.OutOfMemory)
+          → Promises told converters now (call.Update text) before after' Untouched old new (Err stop.OutOfMemory)
       memory_promises lone u = record {
         app = app;
         memory = λ fed. absurd (fed refl);
@@ -375,30 +391,31 @@ module _ (told : Bool) (rules : List Rule) (answers : Answers) (now : ℕ) (text
       }
 
       stopped_promises : no_update_over (root_says root) ≡ None → (e : Stop)
-          → Updates told rules answers now text b.app root busy old new (Err e)
-          → Promises told rules answers now (call.Update text) before after' Untouched old new (Err e)
+          → Updates told converters now text b.app root busy old new (Err e)
+          → Promises told converters now (call.Update text) before after' Untouched old new (Err e)
       stopped_promises lone stop.Device u = device_promises u
       stopped_promises lone stop.OutOfMemory u = memory_promises lone u
 
     pub updated_promises : (IsTrue told → manifests_at old.image b.app ≡ root_texts root)
         → no_update_over (root_says root) ≡ None → (made : Result Outcome Stop)
-        → Updates told rules answers now text b.app root busy old new made → (after' : Running) (result : Result Reply Stop)
+        → Updates told converters now text b.app root busy old new made
+        → (after' : Running) (result : Result Reply Stop)
         → ConcludesCall made (record b { stage = ToOpen }) after' result
-        → Promises told rules answers now (call.Update text) before after' Untouched old new result
+        → Promises told converters now (call.Update text) before after' Untouched old new result
     updated_promises keeps lone (Ok o) u after' result s = subst (λ (x : Running).
-        Promises told rules answers now (call.Update text) before x Untouched old new result) (sym s.0)
-        (subst (λ (x : Result Reply Stop). Promises told rules answers now (call.Update text) before
+        Promises told converters now (call.Update text) before x Untouched old new result) (sym s.0)
+        (subst (λ (x : Result Reply Stop). Promises told converters now (call.Update text) before
         (record b { stage = AtRest o.root }) Untouched old new x) (sym s.1) (done_promises o u
         (λ tells. within_by (keeps tells) tells u.written u.places)))
     updated_promises keeps lone (Err e) u after' result s = subst (λ (x : Result Reply Stop).
-        Promises told rules answers now (call.Update text) before after' Untouched old new x) (sym s.3)
+        Promises told converters now (call.Update text) before after' Untouched old new x) (sym s.3)
         (stopped_promises after' s.0 s.1 s.2 (λ tells. within_by (keeps tells) tells u.written u.places) lone e u)
 
 -- what `begin_update` promises
-pub record Beginning (told : Bool) (rules : List Rule) (answers : Answers) (now : ℕ) (text : List ℕ) (app : ℕ)
+pub record Beginning (told : Bool) (converters : Converters) (now : ℕ) (text : List ℕ) (app : ℕ)
     (root : Root) (busy : Option (List ℕ)) (old new : Medium) (made : Result Begin Stop) : Type 0 where
   pub begins : IfOk made (λ x. (states : List State) × (IsTrue told → (app_at old.image app).states ≡ states)
-      × BeginsUpdate rules answers now busy text (root_app root states) (begun_as x))
+      × BeginsUpdate converters.rules converters.answers now busy text (root_app root states) (begun_as x))
   pub staged : IfOk made (IsUpdateBegun told new.image app root)
   pub image : new.image ≡ old.image
   pub written : new.written ≡ old.written
@@ -410,7 +427,7 @@ pub record Beginning (told : Bool) (rules : List Rule) (answers : Answers) (now 
   pub any_moment : IsTrue told → StandsThroughout app (app_at old.image app) old new
   pub time : Elapses old new
 
-module _ (told : Bool) (rules : List Rule) (answers : Answers) (now : ℕ) (text : List ℕ) (b : Running) (root : Root)
+module _ (told : Bool) (converters : Converters) (now : ℕ) (text : List ℕ) (b : Running) (root : Root)
     (old new : Medium) (Untouched : Type 0)
     (resting : IsResting told old.image b.app root b.slots) (in_use : RootInUseLaw)
     (alike : (busy : Option (List ℕ)) (text : List ℕ) → RefusesAlike (offered busy text)) (busy : Option (List ℕ))
@@ -431,7 +448,7 @@ module _ (told : Bool) (rules : List Rule) (answers : Answers) (now : ℕ) (text
     same_clean : IsCleanApp b.app old.image → IsCleanApp b.app new.image
     same_clean clean = subst (λ (i : Image). IsCleanApp b.app i) (sym same) clean
 
-  module _ (made : Result Begin Stop) (x : Beginning told rules answers now text b.app root busy old new made) where
+  module _ (made : Result Begin Stop) (x : Beginning told converters now text b.app root busy old new made) where
     calls_still : IsTrue told → CallsTo b.app here.disk old new
     calls_still tells = calls_reading b.app here.disk old new x.image x.idle (x.any_moment tells)
 
@@ -444,8 +461,8 @@ module _ (told : Bool) (rules : List Rule) (answers : Answers) (now : ℕ) (text
     quiet_after : Quiet old → Quiet new
     quiet_after quiet = (x.idle quiet).quiet
 
-  ready_promises : (s : Staged) → Beginning told rules answers now text b.app root busy old new (Ok (begin.Ready s))
-      → Promises told rules answers now c first (record b { stage = Updating s }) Untouched old new (Ok (reply_of None))
+  ready_promises : (s : Staged) → Beginning told converters now text b.app root busy old new (Ok (begin.Ready s))
+      → Promises told converters now c first (record b { stage = Updating s }) Untouched old new (Ok (reply_of None))
   ready_promises s x = record {
     app = refl;
     memory = λ fed. record {
@@ -454,13 +471,13 @@ module _ (told : Bool) (rules : List Rule) (answers : Answers) (now : ℕ) (text
         x.staged.0,
         none_taken b.slots resting.open_on.room
             (free_slots told b.app old.image new.image root b.slots resting busy busy_is
-            (begins_free rules answers now busy text (root_app root x.begins.0) (staged_progress s) x.begins.2)),
+            (begins_free converters now busy text (root_app root x.begins.0) (staged_progress s) x.begins.2)),
       );
     };
     answered = λ tells. record {
       row = (
         Ok (staged_progress s),
-        begins_there told rules answers now text b root old new Untouched resting in_use alike busy busy_is tells
+        begins_there told converters now text b root old new Untouched resting in_use alike busy busy_is tells
             x.begins.0 (Ok (staged_progress s)) (x.begins.1 tells) x.begins.2,
         ap (λ (a : App). (
           reply_of None,
@@ -483,7 +500,7 @@ module _ (told : Bool) (rules : List Rule) (answers : Answers) (now : ℕ) (text
     unwritten = λ refused. absurd (true≢false (sym refused));
     looks = λ plans. (x.image, x.written);
     written = λ tells durable. absurd (true≢false (sym durable));
-    within = λ tells. call_unwritten rules answers b.app now here c (bytes_now old) (bytes_now new) x.image
+    within = λ tells. call_unwritten converters b.app now here c (bytes_now old) (bytes_now new) x.image
         x.written;
     place = λ tells. names_none b.app c here refl old.image new.image;
     cause = λ bad. absurd cc;
@@ -494,9 +511,9 @@ module _ (told : Bool) (rules : List Rule) (answers : Answers) (now : ℕ) (text
     time = x.time;
   }
 
-  refused_promises : (same : Root) (e : PerError) → Beginning told rules answers now text b.app root busy old new
+  refused_promises : (same : Root) (e : PerError) → Beginning told converters now text b.app root busy old new
       (Ok (begin.Refused same e))
-      → Promises told rules answers now c first (record b { stage = AtRest same }) Untouched old new
+      → Promises told converters now c first (record b { stage = AtRest same }) Untouched old new
       (Ok (reply_of (Some e)))
   refused_promises same e x = record {
     app = refl;
@@ -512,7 +529,7 @@ module _ (told : Bool) (rules : List Rule) (answers : Answers) (now : ℕ) (text
     answered = λ tells. record {
       row = (
         Err e,
-        begins_there told rules answers now text b root old new Untouched resting in_use alike busy busy_is tells
+        begins_there told converters now text b root old new Untouched resting in_use alike busy busy_is tells
             x.begins.0 (Err e) (x.begins.1 tells) x.begins.2,
         ap (λ (a : App). (
           reply_of (Some e),
@@ -535,28 +552,31 @@ module _ (told : Bool) (rules : List Rule) (answers : Answers) (now : ℕ) (text
     unwritten = λ refused. (x.image, x.written);
     looks = λ plans. (x.image, x.written);
     written = λ tells durable. absurd (true≢false (sym durable));
-    within = λ tells. call_unwritten rules answers b.app now here c (bytes_now old) (bytes_now new) x.image
+    within = λ tells. call_unwritten converters b.app now here c (bytes_now old) (bytes_now new) x.image
         x.written;
     place = λ tells. names_none b.app c here refl old.image new.image;
     cause = λ bad. absurd cc;
     fed = λ bad. absurd cc;
     passes = x.passes;
-    unfailed = (begins_plain rules answers now busy text (root_app root x.begins.0) (Err e) x.begins.2).sound;
-    text = (begins_plain rules answers now busy text (root_app root x.begins.0) (Err e) x.begins.2).text;
+    unfailed = (begins_plain converters.rules converters.answers now busy text (root_app root x.begins.0) (Err e)
+        x.begins.2).sound;
+    text = (begins_plain converters.rules converters.answers now busy text (root_app root x.begins.0) (Err e)
+        x.begins.2).text;
     time = x.time;
   }
 
-  module _ (after' : Running) (app : after'.app ≡ b.app) (stage : after'.stage ≡ ToOpen) (none : NoneOpen after'.slots)
+  module _ (after' : Running) (app : after'.app ≡ b.app) (stage : after'.stage ≡ ToOpen)
+      (none : NoneOpen after'.slots)
     where
       begin_stopped : no_update_over (root_says root) ≡ None → (e : Stop)
-          → Beginning told rules answers now text b.app root busy old new (Err e)
-          → Promises told rules answers now c first after' Untouched old new (Err e)
+          → Beginning told converters now text b.app root busy old new (Err e)
+          → Promises told converters now c first after' Untouched old new (Err e)
       begin_stopped lone stop.Device x = record {
         app = app;
         memory = λ fed. marked_running told new.image b after' resting.below app stage none;
         answered = λ tells. tt;
         failed = λ tells bad. record {
-          reaches = taken_there told rules answers now text b root old new Untouched resting in_use alike busy busy_is
+          reaches = taken_there told converters now text b root old new Untouched resting in_use alike busy busy_is
               tells (x.device_only refl);
           next = here.disk;
           leads = inl refl;
@@ -570,7 +590,7 @@ module _ (told : Bool) (rules : List Rule) (answers : Answers) (now : ℕ) (text
         unwritten = tt;
         looks = λ plans. (x.image, x.written);
         written = λ tells durable. absurd (true≢false (sym durable));
-        within = λ tells. call_unwritten rules answers b.app now here c (bytes_now old) (bytes_now new) x.image
+        within = λ tells. call_unwritten converters b.app now here c (bytes_now old) (bytes_now new) x.image
             x.written;
         place = λ tells. names_none b.app c here refl old.image new.image;
         cause = λ bad. x.cause refl;
@@ -588,7 +608,7 @@ module _ (told : Bool) (rules : List Rule) (answers : Answers) (now : ℕ) (text
         stopped = λ tells bad. record {
           needs = record {
             free = refl;
-            needs = inr (ap no_update_over (sym (says_same told rules answers now text b root old new Untouched resting
+            needs = inr (ap no_update_over (sym (says_same told converters now text b root old new Untouched resting
                 in_use alike busy busy_is tells)) ∙ lone);
           };
           next = here.disk;
@@ -601,7 +621,7 @@ module _ (told : Bool) (rules : List Rule) (answers : Answers) (now : ℕ) (text
         unwritten = tt;
         looks = λ plans. (x.image, x.written);
         written = λ tells durable. absurd (true≢false (sym durable));
-        within = λ tells. call_unwritten rules answers b.app now here c (bytes_now old) (bytes_now new) x.image
+        within = λ tells. call_unwritten converters b.app now here c (bytes_now old) (bytes_now new) x.image
             x.written;
         place = λ tells. names_none b.app c here refl old.image new.image;
         cause = λ bad. absurd cc;
@@ -613,17 +633,18 @@ module _ (told : Bool) (rules : List Rule) (answers : Answers) (now : ℕ) (text
       }
 
   pub begun_promises : no_update_over (root_says root) ≡ None → (made : Result Begin Stop)
-      → Beginning told rules answers now text b.app root busy old new made → (after' : Running) (result : Result Reply Stop)
+      → Beginning told converters now text b.app root busy old new made
+      → (after' : Running) (result : Result Reply Stop)
       → ConcludesBegun made (record b { stage = ToOpen }) after' result
-      → Promises told rules answers now c first after' Untouched old new result
+      → Promises told converters now c first after' Untouched old new result
   begun_promises lone (Ok (begin.Ready s)) x after' result settles =
-      subst (λ (y : Running). Promises told rules answers now c first y Untouched old new result) (sym settles.0)
-      (subst (λ (y : Result Reply Stop). Promises told rules answers now c first (record b { stage = Updating s })
+      subst (λ (y : Running). Promises told converters now c first y Untouched old new result) (sym settles.0)
+      (subst (λ (y : Result Reply Stop). Promises told converters now c first (record b { stage = Updating s })
       Untouched old new y) (sym settles.1) (ready_promises s x))
   begun_promises lone (Ok (begin.Refused same e)) x after' result settles =
-      subst (λ (y : Running). Promises told rules answers now c first y Untouched old new result) (sym settles.0)
-      (subst (λ (y : Result Reply Stop). Promises told rules answers now c first (record b { stage = AtRest same })
+      subst (λ (y : Running). Promises told converters now c first y Untouched old new result) (sym settles.0)
+      (subst (λ (y : Result Reply Stop). Promises told converters now c first (record b { stage = AtRest same })
       Untouched old new y) (sym settles.1) (refused_promises same e x))
   begun_promises lone (Err e) x after' result settles = subst
-      (λ (y : Result Reply Stop). Promises told rules answers now c first after' Untouched old new y) (sym settles.3)
+      (λ (y : Result Reply Stop). Promises told converters now c first after' Untouched old new y) (sym settles.3)
       (begin_stopped after' settles.0 settles.1 settles.2 lone e x)

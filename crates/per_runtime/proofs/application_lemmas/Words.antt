@@ -9,13 +9,13 @@ use Rattle.per_base.specs.declared.errors.Unit.TheVariants as unit
 use Rattle.per_base.specs.Refusals.{CarriesText, NeedsMemory}
 use Rattle.element_state.specs.States.{State}
 use Rattle.disk_model.specs.Image.{Image}
-use Rattle.migrate_fns.specs.Rules.{Answers, Rule}
 use Rattle.command_text.specs.declared.calls.Call.TheVariants as call
 use Rattle.deploy.specs.Refusals.{AllocatesNothing}
 use Rattle.deploy_laws.specs.Apps.{App, Says, absent, installed, nothing}
 use Rattle.deploy_rows.specs.Laws.{FinishLaterLaw, InstallLaterLaw, RefusesAlike, RollbackLaterLaw, WipeLaterLaw}
 use Rattle.deploy_rows.specs.Rows.{finishing, installing, not_busy, rolling_back, wiping}
 use Rattle.run_model.specs.Calls.{app_step, done_with, least_open, concluded}
+use Rattle.run_model.specs.Converters.{Converters}
 use Rattle.run_model.specs.Worlds.{Application}
 use Rattle.per_runtime.specs.declared.storages.slots.OpenSlots.{OpenSlots}
 use Rattle.per_runtime.specs.storages.Slots.{resting_with}
@@ -49,7 +49,8 @@ installs_there now text a e is late = by a.says a.lacking a.states is
         (let same : error.AlreadyInstalled ≡ e = cc in subst AllocatesNothing same tt))
 
 -- what an open storage holds up is refused with its name
-busy_carries : {A : Type 0} (busy : Option (List ℕ)) (rest : Result A PerError) (e : PerError) → not_busy busy rest ≡ Err e
+busy_carries : {A : Type 0} (busy : Option (List ℕ)) (rest : Result A PerError) (e : PerError) → not_busy busy rest
+    ≡ Err e
     → (busy ≡ None → ⊥) → CarriesText e
 busy_carries None rest e is some = absurd (some refl)
 busy_carries (Some name) rest e is some =
@@ -74,12 +75,12 @@ held_up : (busy : Option (List ℕ)) (a : App) (e : PerError) → wiping busy a 
 unfolding wiping
 held_up busy a e is some = busy_carries busy _ e is some
 
-module _ (told : Bool) (rules : List Rule) (answers : Answers) (app now : ℕ) (image : Image) (slots : OpenSlots) where
+module _ (told : Bool) (converters : Converters) (app now : ℕ) (image : Image) (slots : OpenSlots) where
   abbrev r : Application
   r = resting_with image app slots
 
   pub install_word : (text : List ℕ) → RefusesAlike (installing now text) → InstallLaterLaw
-      → IsWord told rules answers app now (call.Install text) r (installing now text) AllocatesNothing
+      → IsWord told converters app now (call.Install text) r (installing now text) AllocatesNothing
   unfolding app_step
   install_word text alike later = record {
     alike = alike;
@@ -95,7 +96,7 @@ module _ (told : Bool) (rules : List Rule) (answers : Answers) (app now : ℕ) (
   }
 
   pub finish_word : RefusesAlike finishing → FinishLaterLaw
-      → IsWord told rules answers app now call.Finish r finishing (λ e. ⊤)
+      → IsWord told converters app now call.Finish r finishing (λ e. ⊤)
   unfolding app_step
   finish_word alike later = record {
     alike = alike;
@@ -112,7 +113,7 @@ module _ (told : Bool) (rules : List Rule) (answers : Answers) (app now : ℕ) (
 
   module _ (busy : Option (List ℕ)) (busy_is : IsTrue told → busy ≡ least_open r) where
     pub rollback_word : RefusesAlike (rolling_back busy) → RollbackLaterLaw
-        → IsWord told rules answers app now call.Rollback r (rolling_back busy)
+        → IsWord told converters app now call.Rollback r (rolling_back busy)
         (λ e. AllocatesNothing e ⊎ (busy ≡ None))
     unfolding app_step
     rollback_word alike later = record {
@@ -133,7 +134,7 @@ module _ (told : Bool) (rules : List Rule) (answers : Answers) (app now : ℕ) (
     }
 
     pub wipe_word : RefusesAlike (wiping busy) → WipeLaterLaw
-        → IsWord told rules answers app now call.Wipe r (wiping busy) (λ e. busy ≡ None)
+        → IsWord told converters app now call.Wipe r (wiping busy) (λ e. busy ≡ None)
     unfolding app_step
     wipe_word alike later = record {
       alike = alike;

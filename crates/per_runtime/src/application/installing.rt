@@ -1,8 +1,8 @@
 //! The calls that install, finish, roll back and wipe.
 
 ghost use Rattle.std.specs.Prelude.{◌≡◌, ℕ, false};
-ghost use Rattle.migrate_fns.specs.Stored.{answers_of, rules_of};
 ghost use Rattle.command_text.specs.declared.calls.Call.{Call};
+ghost use Rattle.run_model.specs.Converters.{converters_of};
 ghost use Rattle.run_model.specs.Worlds.{at_rest, is_to_open};
 ghost use Rattle.per_runtime.specs.application.Promises.{Promises};
 ghost use Rattle.per_runtime.specs.application.Running.{IsRunning, stage_in};
@@ -29,7 +29,7 @@ impl Running {
     ) -> Result<Reply, Stop>
         requires memory { IsRunning D.told (D.medium disk.old).image self.old }
         requires opened { is_to_open (stage_in self.old.stage) ≡ false }
-        ensures { Promises D.told (rules_of migrations.now) (answers_of migrations.now) now (Call.Install manifest.now)
+        ensures { Promises D.told (converters_of migrations.now) now (Call.Install manifest.now)
             self.old self.new
             (disk.new ≡ disk.old) (D.medium disk.old) (D.medium disk.new) result }
     {
@@ -53,7 +53,7 @@ impl Running {
     ) -> Result<Reply, Stop>
         requires memory { IsRunning D.told (D.medium disk.old).image self.old }
         requires rests { stage_in self.old.stage ≡ at_rest }
-        ensures { (now : ℕ) → Promises D.told (rules_of migrations.now) (answers_of migrations.now) now Call.Finish
+        ensures { (now : ℕ) → Promises D.told (converters_of migrations.now) now Call.Finish
             self.old self.new
             (disk.new ≡ disk.old) (D.medium disk.old) (D.medium disk.new) result }
     {
@@ -75,7 +75,7 @@ impl Running {
     ) -> Result<Reply, Stop>
         requires memory { IsRunning D.told (D.medium disk.old).image self.old }
         requires rests { stage_in self.old.stage ≡ at_rest }
-        ensures { (now : ℕ) → Promises D.told (rules_of migrations.now) (answers_of migrations.now) now Call.Rollback
+        ensures { (now : ℕ) → Promises D.told (converters_of migrations.now) now Call.Rollback
             self.old self.new
             (disk.new ≡ disk.old) (D.medium disk.old) (D.medium disk.new) result }
     {
@@ -100,7 +100,7 @@ impl Running {
     ) -> Result<Reply, Stop>
         requires memory { IsRunning D.told (D.medium disk.old).image self.old }
         requires rests { stage_in self.old.stage ≡ at_rest }
-        ensures { (now : ℕ) → Promises D.told (rules_of migrations.now) (answers_of migrations.now) now Call.Wipe
+        ensures { (now : ℕ) → Promises D.told (converters_of migrations.now) now Call.Wipe
             self.old self.new
             (disk.new ≡ disk.old) (D.medium disk.old) (D.medium disk.new) result }
     {

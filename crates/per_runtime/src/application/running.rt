@@ -7,13 +7,13 @@ ghost use Rattle.disk_model.specs.Frame.{Spares};
 ghost use Rattle.disk_model.specs.Image.{Image};
 ghost use Rattle.disk_model.specs.Medium.{Elapses, Quiet};
 ghost use Rattle.disk_model.specs.Place.{IsNoSlot};
-ghost use Rattle.migrate_fns.specs.Stored.{answers_of, rules_of};
 ghost use Rattle.deploy_laws.specs.Apps.{App, app_at};
 ghost use Rattle.deploy_laws.specs.Places.{root_place};
 ghost use Rattle.deploy_laws.specs.Stands.{IsLater};
 ghost use Rattle.deploy_rows.specs.Costs.{greatest_cost, manifests_at, root_cost};
 ghost use Rattle.run_model.specs.AppLaws.{OpensRoot};
 ghost use Rattle.run_model.specs.Calls.{beside_update};
+ghost use Rattle.run_model.specs.Converters.{converters_of};
 ghost use Rattle.run_model.specs.Steps.{calls_device};
 ghost use Rattle.run_model.specs.Turns.{bytes_now};
 ghost use Rattle.run_model.specs.Worlds.{at_rest, is_to_open, none_open, to_open, update_in};
@@ -155,7 +155,7 @@ impl Running {
     ) -> Result<Reply, Stop>
         requires memory { IsRunning D.told (D.medium disk.old).image self.old }
         requires opened { is_to_open (stage_in self.old.stage) ≡ false }
-        ensures { Promises D.told (rules_of migrations.now) (answers_of migrations.now) now (asked_call asked.now)
+        ensures { Promises D.told (converters_of migrations.now) now (asked_call asked.now)
             self.old self.new
             (disk.new ≡ disk.old) (D.medium disk.old) (D.medium disk.new) result }
     {
@@ -192,7 +192,7 @@ impl Running {
         requires memory { IsRunning D.told (D.medium disk.old).image self.old }
         requires opened { is_to_open (stage_in self.old.stage) ≡ false }
         requires free { beside_update (update_in (stage_in self.old.stage)) (deploying_call deploying.now) ≡ None }
-        ensures { Promises D.told (rules_of migrations.now) (answers_of migrations.now) now
+        ensures { Promises D.told (converters_of migrations.now) now
             (deploying_call deploying.now) self.old self.new
             (disk.new ≡ disk.old) (D.medium disk.old) (D.medium disk.new) result }
     {

@@ -2,7 +2,7 @@
 
 ghost use Rattle.std.specs.Prelude.{◌≡◌, ℕ, false, length};
 ghost use Rattle.command_text.specs.declared.calls.Call.{Call};
-ghost use Rattle.migrate_fns.specs.Stored.{answers_of, rules_of};
+ghost use Rattle.run_model.specs.Converters.{converters_of};
 ghost use Rattle.run_model.specs.Worlds.{at_rest, is_to_open};
 ghost use Rattle.per_runtime.specs.application.Promises.{Promises};
 ghost use Rattle.per_runtime.specs.application.Running.{IsRunning, stage_in};
@@ -28,7 +28,7 @@ impl Running {
     ) -> Result<Reply, Stop>
         requires memory { IsRunning D.told (D.medium disk.old).image self.old }
         requires rests { stage_in self.old.stage ≡ at_rest }
-        ensures { Promises D.told (rules_of migrations.now) (answers_of migrations.now) now (Call.Update manifest.now)
+        ensures { Promises D.told (converters_of migrations.now) now (Call.Update manifest.now)
             self.old self.new
             (disk.new ≡ disk.old) (D.medium disk.old) (D.medium disk.new) result }
     {
@@ -64,7 +64,7 @@ impl Running {
     ) -> Result<Reply, Stop>
         requires memory { IsRunning D.told (D.medium disk.old).image self.old }
         requires rests { stage_in self.old.stage ≡ at_rest }
-        ensures { Promises D.told (rules_of migrations.now) (answers_of migrations.now) now
+        ensures { Promises D.told (converters_of migrations.now) now
             (Call.UpdateBegin manifest.now) self.old self.new
             (disk.new ≡ disk.old) (D.medium disk.old) (D.medium disk.new) result }
     {
@@ -120,7 +120,7 @@ impl Running {
     ) -> Result<Reply, Stop>
         requires memory { IsRunning D.told (D.medium disk.old).image self.old }
         requires opened { is_to_open (stage_in self.old.stage) ≡ false }
-        ensures { (now : ℕ) → Promises D.told (rules_of migrations.now) (answers_of migrations.now) now Call.UpdateNext
+        ensures { (now : ℕ) → Promises D.told (converters_of migrations.now) now Call.UpdateNext
             self.old self.new
             (disk.new ≡ disk.old) (D.medium disk.old) (D.medium disk.new) result }
     {
@@ -143,7 +143,7 @@ impl Running {
     ) -> Result<Reply, Stop>
         requires memory { IsRunning D.told (D.medium disk.old).image self.old }
         requires opened { is_to_open (stage_in self.old.stage) ≡ false }
-        ensures { (now : ℕ) → Promises D.told (rules_of migrations.now) (answers_of migrations.now) now
+        ensures { (now : ℕ) → Promises D.told (converters_of migrations.now) now
             Call.UpdateCommit self.old self.new
             (disk.new ≡ disk.old) (D.medium disk.old) (D.medium disk.new) result }
     {

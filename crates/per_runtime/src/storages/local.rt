@@ -47,7 +47,7 @@ impl OpenSlots {
         let Some(storage) = &mut self.open[located.number as usize] else {
             return Ok(refusal(alloc, PerError::NotOpen));
         };
-        let answer = storage.call(alloc, now, local.call);
+        let answer = storage.call(now, local.call);
         storage.invariants();
         concluded(alloc, answer)
     }

@@ -30,12 +30,12 @@ returns-clause-counted g c =
     let lasts : texts_of c.as_slice-2.result.now ≡ last_lines =
     ap texts_of c.as_slice-2.ensures ∙ c.last_lines.ensures in
     on_ok_weaker c.handle_each-2.result (λ more start none.
-    counted_along _ _ _ _ _ _ _ _ _ (ap (λ (ls : List (List ℕ)).
+    counted_along _ _ _ _ _ _ _ _ (ap (λ (ls : List (List ℕ)).
     (first_lines ++ generated_lines c.args.number 1 c.args.number) ++ ls) (sym lasts))
     (more start (first_lines ++ generated_lines c.args.number 1 c.args.number)
     (few_all c.args.number _ c.requires.number lasts)
     (c.in_ok-handle_generated.ensures.counted start first_lines (few_between c.args.number c.requires.number)
-    (counted_along _ _ _ _ _ _ _ _ _ (sym firsts) (c.in_ok-handle_each.ensures.counted start [] (few_first _ firsts)
+    (counted_along _ _ _ _ _ _ _ _ (sym firsts) (c.in_ok-handle_each.ensures.counted start [] (few_first _ firsts)
     none))))) c.handle_each-2.ensures.counted
 
 -- memory ran out in the first lines, in those between, or in the last ones
@@ -53,7 +53,7 @@ returns-in_err-handle_generated-clause-short g c = λ err laws start none.
     ap texts_of c.as_slice.ensures ∙ c.first_lines.ensures in
     c.in_err-handle_generated.ensures.short refl laws start first_lines (generated c.args.number)
     (few_between c.args.number c.requires.number)
-    (counted_along _ _ _ _ _ _ _ _ _ (sym firsts) (c.in_ok-handle_each.ensures.counted start [] (few_first _ firsts)
+    (counted_along _ _ _ _ _ _ _ _ (sym firsts) (c.in_ok-handle_each.ensures.counted start [] (few_first _ firsts)
     none)) (begin_less (first_lines ++ generated_lines c.args.number 1 c.args.number) last_lines _ (begin_here _))
 
 pub returns-clause-short : goal.returns-clause-short
@@ -66,7 +66,7 @@ returns-clause-short g c = λ err laws start none.
     (first_lines ++ generated_lines c.args.number 1 c.args.number) (generated c.args.number)
     (few_all c.args.number _ c.requires.number lasts)
     (c.in_ok-handle_generated.ensures.counted start first_lines (few_between c.args.number c.requires.number)
-    (counted_along _ _ _ _ _ _ _ _ _ (sym firsts) (c.in_ok-handle_each.ensures.counted start [] (few_first _ firsts)
+    (counted_along _ _ _ _ _ _ _ _ (sym firsts) (c.in_ok-handle_each.ensures.counted start [] (few_first _ firsts)
     none)))
     (begin_as _ _ _ (ap (λ (ls : List (List ℕ)). (first_lines ++ generated_lines c.args.number 1 c.args.number) ++ ls)
     (sym lasts)) (begin_here _))

@@ -8,7 +8,7 @@ use Rattle.std.proofs.Common.{◌++◌, ◌+◌, take}
 pub loop-line-preserved : goal.loop-line-preserved
 loop-line-preserved g c = record {
   counts = λ start before few counted.
-      counted_along _ _ _ _ _ _ _ _ _ (each_on before c.args.lines.now c.loop-line.line-index _ _ c.loop-line-test.true
+      counted_along _ _ _ _ _ _ _ _ (each_on before c.args.lines.now c.loop-line.line-index _ _ c.loop-line-test.true
       c.as_bytes.ensures.value)
       (c.in_ok-handle_one.ensures.counted start (before ++ texts_of (take c.loop-line.line-index c.args.lines.now))
       (few_each before c.args.lines.now c.loop-line.line-index few)
@@ -19,7 +19,7 @@ loop-line-preserved g c = record {
 
 pub returns-clause-counted : goal.returns-clause-counted
 returns-clause-counted g c = λ start before few counted.
-    counted_along _ _ _ _ _ _ _ _ _ (each_whole before c.args.lines.now c.loop-line.line-index
+    counted_along _ _ _ _ _ _ _ _ (each_whole before c.args.lines.now c.loop-line.line-index
     (omega (arith, c.loop-line-test.false))) (c.loop-line.invariant.counts start before few counted)
 
 pub returns-in_err-handle_one-clause-short : goal.returns-in_err-handle_one-clause-short

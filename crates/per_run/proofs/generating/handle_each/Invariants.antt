@@ -1,7 +1,7 @@
 -- The lines so far are handled, the runtime is in use, and time went on.
 use Rattle.std.proofs.Common.{ℕ, List, None, ◌++◌, ◌<◌, ◌^◌, length, map, take}
 use Rattle.disk_model.specs.Medium.{Elapses}
-use Rattle.run_model.specs.Edges.{converters_of}
+use Rattle.run_model.specs.Converters.{converters_of}
 use Rattle.per_runtime.specs.Memories.{IsRuntime, memory_of}
 use Rattle.per_run.specs.Steps.{Counted, outset}
 use Rattle.per_run.proofs.generating.handle_each.Given as goal

@@ -9,7 +9,7 @@ use Rattle.per_run.proofs.generating.handle_generated.Goals as goal
 pub loop-index-preserved : goal.loop-index-preserved
 loop-index-preserved g c = record {
   counts = λ start before few counted.
-      counted_along _ _ _ _ _ _ _ _ _ (generated_on before c.args.number c.loop-index.index c.loop-index.x _
+      counted_along _ _ _ _ _ _ _ _ (generated_on before c.args.number c.loop-index.index c.loop-index.x _
       c.loop-index.invariant.number
       (c.as_slice.ensures.value ∙ c.in_ok-line.ensures ∙ ap (λ (y : ℕ). generated_line y (c.loop-index.index + 1))
       c.next_number-x.ensures.next))
@@ -27,14 +27,14 @@ pub returns-clause-counted : goal.returns-clause-counted
 returns-clause-counted g c =
     let same : c.args.number ≡ c.loop-index.index = omega (arith, c.loop-index-test.false, c.loop-index.auto.index-end)
     in
-    λ start before few counted. counted_along _ _ _ _ _ _ _ _ _
+    λ start before few counted. counted_along _ _ _ _ _ _ _ _
     (ap (λ (k : ℕ). before ++ generated_lines k 1 c.args.number) same)
     (c.loop-index.invariant.counts start before few counted)
 
 -- memory ran out for the text of a line
 pub returns-in_err-line-clause-short : goal.returns-in_err-line-clause-short
 returns-in_err-line-clause-short g c = λ err laws start before all few counted begin.
-    short_between _ _ _ _ laws (before ++ generated_lines c.loop-index.index 1 c.args.number) all _ _ _
+    short_between _ _ _ laws (before ++ generated_lines c.loop-index.index 1 c.args.number) all _ _ _
     (c.loop-index.invariant.counts start before few counted)
     (begin_less (before ++ generated_lines c.loop-index.index 1 c.args.number) _ all
     (begin_as _ _ all (generated_on before c.args.number c.loop-index.index c.loop-index.x _

@@ -2,7 +2,7 @@
 use Rattle.std.proofs.Common.{ℕ, List, None, ◌++◌, ◌≡◌, ◌<◌, ◌+◌, ◌^◌, length}
 use Rattle.disk_model.specs.Medium.{Elapses}
 use Rattle.command_text.specs.Generated.{generated_lines}
-use Rattle.run_model.specs.Edges.{converters_of}
+use Rattle.run_model.specs.Converters.{converters_of}
 use Rattle.per_runtime.specs.Memories.{IsRuntime, memory_of}
 use Rattle.per_run.specs.Steps.{Counted, outset}
 use Rattle.per_run.proofs.Tallied.{number_after}

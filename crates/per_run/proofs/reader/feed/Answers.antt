@@ -12,7 +12,7 @@ pub loop-line-init : goal.loop-line-init
 loop-line-init g c = record {
   front = [];
   parts = refl;
-  goes_on = λ start before given small reached. reached_along _ _ _ _ before _ _ _ _ _ _ _ (append-nil given) reached;
+  goes_on = λ start before given small reached. reached_along _ _ _ before _ _ _ _ _ _ _ (append-nil given) reached;
   in_use = c.requires;
   time = elapses_none (g.met.D.Disk.lawful _);
   sink_later = omega arith;
@@ -30,7 +30,7 @@ loop-line-preserved g c =
       parts = front_more c.args.piece.now so_far.front c.loop-line.rest.now line c.in-Some.others.now so_far.parts
           c.in-Some.ensures.parts;
       goes_on = λ start before given small reached.
-          reached_along _ _ _ _ before _ _ _ _ _ _ _ (sym (append_assoc given so_far.front (line ++ 10 ∷ [])))
+          reached_along _ _ _ before _ _ _ _ _ _ _ (sym (append_assoc given so_far.front (line ++ 10 ∷ [])))
           (c.in-Ok.ensures.goes_on start before (given ++ so_far.front)
           (line_small given c.args.piece.now so_far.front c.loop-line.rest.now line c.in-Some.others.now _ small
           so_far.parts c.in-Some.ensures.parts)
@@ -43,7 +43,7 @@ loop-line-preserved g c =
 pub returns-in-Err-clause-ends : goal.returns-in-Err-clause-ends
 returns-in-Err-clause-ends g c = λ laws start before given small reached.
     let so_far = c.loop-line.invariant in
-    course_along _ _ _ _ before (ending_of c.in-Err.ending) _ _ _ _
+    course_along _ _ _ before (ending_of c.in-Err.ending) _ _ _ _
     (ap (lines_of false) (sym (given_at_line given c.args.piece.now so_far.front c.loop-line.rest.now
     c.in-Some.line.now c.in-Some.others.now so_far.parts c.in-Some.ensures.parts)))
     (c.in-Err.ensures.ends laws start before (given ++ so_far.front) c.in-Some.others.now
@@ -57,15 +57,15 @@ returns-in-Err-clause-time g c = elapses_on c.loop-line.invariant.time c.in-Err.
 pub returns-in-Ok-keep-clause-goes_on : goal.returns-in-Ok-keep-clause-goes_on
 returns-in-Ok-keep-clause-goes_on g c = λ start before given small reached.
     let so_far = c.loop-line.invariant in
-    reached_along _ _ _ _ before _ _ _ _ _ _ _
+    reached_along _ _ _ before _ _ _ _ _ _ _
     (sym (given_whole given c.args.piece.now so_far.front c.loop-line.rest.now so_far.parts))
-    (reached_bytes _ _ _ _ before (given ++ so_far.front) c.loop-line.rest.now _ _ _ _ _ _
+    (reached_bytes _ _ _ before (given ++ so_far.front) c.loop-line.rest.now _ _ _ _ _ _
     (so_far.goes_on start before given small reached) c.in_default.ensures.none c.in-Ok-keep.ensures.kept)
 
 pub returns-in-Err-keep-clause-ends : goal.returns-in-Err-keep-clause-ends
 returns-in-Err-keep-clause-ends g c = λ laws start before given small reached.
     let so_far = c.loop-line.invariant in
-    course_along _ _ _ _ before (ending_of c.in-Err-keep.ending) _ _ _ _
+    course_along _ _ _ before (ending_of c.in-Err-keep.ending) _ _ _ _
     (ap (lines_of false) (sym (given_whole given c.args.piece.now so_far.front c.loop-line.rest.now so_far.parts)))
-    (ends_short _ _ _ _ before laws c.in-Err-keep.ending (given ++ so_far.front) c.loop-line.rest.now _ _ _ _ _
+    (ends_short _ _ _ before laws c.in-Err-keep.ending (given ++ so_far.front) c.loop-line.rest.now _ _ _ _ _
     c.in-Err-keep.ensures.memory (so_far.goes_on start before given small reached))

@@ -13,18 +13,18 @@ some_is text kept none same says is empty = let long : length text ≡ 0 =
 
 pub returns-then-is_empty-clause-ends : goal.returns-then-is_empty-clause-ends
 returns-then-is_empty-clause-ends g c = λ laws start before given small reached.
-    ends_read _ _ _ _ before laws given _ _ _ _ _ reached
+    ends_read _ _ _ before laws given _ _ _ _ _ reached
     (is_empty _ _ _ c.as_slice.ensures.value c.is_empty.ensures c.if-is_empty.true)
 
 pub returns-in-Ok-clause-ends : goal.returns-in-Ok-clause-ends
 returns-in-Ok-clause-ends g c = λ laws start before given small reached.
-    ends_last _ _ _ _ before laws given _ _ _ _ _ _ _ _ reached
+    ends_last _ _ _ before laws given _ _ _ _ _ _ _ _ reached
     (some_is _ _ _ c.as_slice.ensures.value c.is_empty.ensures c.if-is_empty.false)
     (λ lines text. c.in-Ok.ensures.goes_on start before lines text)
 
 pub returns-in-Err-clause-ends : goal.returns-in-Err-clause-ends
 returns-in-Err-clause-ends g c = λ laws start before given small reached.
-    ends_at_last _ _ _ _ before (ending_of c.in-Err.ending) given _ _ _ _ _ _ _ small reached
+    ends_at_last _ _ _ before (ending_of c.in-Err.ending) given _ _ _ _ _ _ _ small reached
     (some_is _ _ _ c.as_slice.ensures.value c.is_empty.ensures c.if-is_empty.false)
     (λ lines more text. c.in-Err.ensures.ends laws start before lines more text)
 

@@ -7,7 +7,7 @@ use Rattle.per_run.proofs.reader.handle_event.Goals as goal
 pub returns-in-Ok-clause-goes_on : goal.returns-in-Ok-clause-goes_on
 returns-in-Ok-clause-goes_on g c = on_ok _ _ _ c.write_reply.result _ c.write_reply.ensures.puts
     (λ wrote start before lines text spelled handled.
-    handled_reply _ _ _ _ before lines _ _ _ _ _ _ text c.in-Ok.reply (g.met.D.Disk.lawful _) c.step.ensures.time
+    handled_reply _ _ _ before lines _ _ _ _ _ _ text c.in-Ok.reply (g.met.D.Disk.lawful _) c.step.ensures.time
     handled
     (record {
       event = c.args.event.now;
@@ -20,7 +20,7 @@ returns-in-Ok-clause-goes_on g c = on_ok _ _ _ c.write_reply.result _ c.write_re
 pub returns-in-Ok-clause-ends : goal.returns-in-Ok-clause-ends
 returns-in-Ok-clause-ends g c = if_err _ _ _ c.write_reply.result _ c.write_reply.ensures.puts
     (λ ending puts laws start before lines others text spelled handled.
-    course_in_reply _ _ _ _ before laws ending lines others _ _ _ _ _ _ text c.in-Ok.reply
+    course_in_reply _ _ _ before laws ending lines others _ _ _ _ _ _ text c.in-Ok.reply
     (g.met.D.Disk.lawful _) c.step.ensures.time handled
     (record {
       event = c.args.event.now;
@@ -32,7 +32,7 @@ returns-in-Ok-clause-ends g c = if_err _ _ _ c.write_reply.result _ c.write_repl
 
 pub returns-in-Err-clause-ends : goal.returns-in-Err-clause-ends
 returns-in-Err-clause-ends g c = λ laws start before lines others text spelled handled.
-    course_short _ _ _ _ before g.D.Disk.medium laws lines others _ _ _ _ text (g.met.D.Disk.lawful _)
+    course_short _ _ _ before g.D.Disk.medium laws lines others _ _ _ _ text (g.met.D.Disk.lawful _)
     c.step.ensures.time handled
     (inr (record {
       event = c.args.event.now;

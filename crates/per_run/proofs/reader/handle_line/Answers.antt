@@ -1,9 +1,9 @@
 -- The line is the one that is kept, and its number the next.
 use Rattle.std.proofs.Common.{ℕ, List, ◌∙◌, subst, arith}
-use Rattle.run_model.specs.Edges.{converters_of}
+use Rattle.run_model.specs.Converters.{converters_of}
+use Rattle.run_model.specs.Runtimes.{runtime_at}
 use Rattle.per_runtime.specs.Memories.{memory_of}
 use Rattle.per_run.specs.Needs.{HandlingMayStarve}
-use Rattle.per_run.specs.Steps.{runtime_at}
 use Rattle.per_run.proofs.reader.handle_line.Goals as goal
 
 pub returns-in-Ok-clause-goes_on : goal.returns-in-Ok-clause-goes_on

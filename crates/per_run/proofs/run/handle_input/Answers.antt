@@ -8,8 +8,8 @@ use Rattle.per_run.proofs.run.handle_input.Goals as goal
 pub returns-in-Ok-clause-ran : goal.returns-in-Ok-clause-ran
 returns-in-Ok-clause-ran g c = λ laws start handled.
     c.read_all.ensures.ran laws start (g.K.Sink.written c.args.sink.now)
-    (reached_none _ _ _ _ _ _ _ _ _ _ (handled_as _ _ _ _ _ _ _ _ _ _ (ap memory_of c.new-reader.ensures.runtime)
+    (reached_none _ _ _ _ _ _ _ _ _ (handled_as _ _ _ _ _ _ _ _ _ (ap memory_of c.new-reader.ensures.runtime)
     handled) c.new-reader.ensures.kept c.new-reader.ensures.number)
 
 pub returns-in-Err-clause-ran : goal.returns-in-Err-clause-ran
-returns-in-Err-clause-ran g c = λ laws start handled. ran_memory _ _ _ _ _ _ laws _ _ _ handled
+returns-in-Err-clause-ran g c = λ laws start handled. ran_memory _ _ _ _ _ laws _ _ _ handled

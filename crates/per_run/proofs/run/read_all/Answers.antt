@@ -6,7 +6,7 @@ use Rattle.per_run.proofs.run.read_all.Goals as goal
 
 pub returns-in-Ok-eq0-clause-ran : goal.returns-in-Ok-eq0-clause-ran
 returns-in-Ok-eq0-clause-ran g c = λ laws start before reached.
-    ran_read _ _ _ _ _ before c.finish.result _ _ _ _ _ _ _ _ _ _ c.in-Ok-eq0.field-0 c.read_piece.new.buffer
+    ran_read _ _ _ _ before c.finish.result _ _ _ _ _ _ _ _ _ _ c.in-Ok-eq0.field-0 c.read_piece.new.buffer
     (c.loop-taken.invariant.goes_on start before reached) c.loop-taken-test.true
     c.in-Ok-eq0.field-0-test c.in-Ok-eq0.ensures.bytes.0 (c.in-Ok-eq0.ensures.bytes.1 c.in-Ok-eq0.field-0-test)
     c.finish.ensures.inner (λ given. c.finish.ensures.ends laws start before given)
@@ -17,7 +17,7 @@ returns-in-Ok-eq0-clause-time g c = elapses_on c.loop-taken.invariant.time c.fin
 pub loop-taken-preserved : goal.loop-taken-preserved
 loop-taken-preserved g c = record {
   goes_on = λ start before reached.
-      taken_more _ _ _ _ _ before _ _ _ _ _ _ _ _ _ _ _ _ c.loop-taken.taken c.in-Ok.count c.read_piece.new.buffer
+      taken_more _ _ _ _ before _ _ _ _ _ _ _ _ _ _ _ _ c.loop-taken.taken c.in-Ok.count c.read_piece.new.buffer
       (c.loop-taken.invariant.goes_on start before reached) c.loop-taken.invariant.within
       (omega (arith, c.in-Ok.ensures.bound, c.min-room.ensures, c.read_piece.auto.buffer))
       (omega (arith, c.in-Ok.ensures.bound, c.min-room.ensures, c.loop-taken-test.true))
@@ -32,7 +32,7 @@ loop-taken-preserved g c = record {
 
 pub returns-in-Err-feed-clause-ran : goal.returns-in-Err-feed-clause-ran
 returns-in-Err-feed-clause-ran g c = λ laws start before reached.
-    ran_fed _ _ _ _ _ before c.in-Err-feed.ending _ _ _ _ _ _ _ _ _ c.loop-taken.taken c.in-Ok.count
+    ran_fed _ _ _ _ before c.in-Err-feed.ending _ _ _ _ _ _ _ _ _ c.loop-taken.taken c.in-Ok.count
     c.read_piece.new.buffer (c.loop-taken.invariant.goes_on start before reached) c.loop-taken.invariant.within
     (omega (arith, c.in-Ok.ensures.bound, c.min-room.ensures, c.read_piece.auto.buffer))
     (omega (arith, c.in-Ok.ensures.bound, c.min-room.ensures, c.loop-taken-test.true))
@@ -44,10 +44,10 @@ returns-in-Err-feed-clause-time g c = elapses_on c.loop-taken.invariant.time c.i
 
 pub returns-in-Err-clause-ran : goal.returns-in-Err-clause-ran
 returns-in-Err-clause-ran g c = λ laws start before reached.
-    ran_source _ _ _ _ _ before laws _ _ _ _ _ _ _ c.loop-taken.taken
+    ran_source _ _ _ _ before laws _ _ _ _ _ _ _ c.loop-taken.taken
     (c.loop-taken.invariant.goes_on start before reached) c.loop-taken-test.true c.in-Err.ensures.bytes
 
 pub returns-clause-ran : goal.returns-clause-ran
 returns-clause-ran g c = λ laws start before reached.
-    ran_long _ _ _ _ _ before laws _ _ _ _ _ _ c.loop-taken.taken (c.loop-taken.invariant.goes_on start before reached)
+    ran_long _ _ _ _ before laws _ _ _ _ _ _ c.loop-taken.taken (c.loop-taken.invariant.goes_on start before reached)
     c.loop-taken.invariant.within c.loop-taken-test.false

@@ -2,8 +2,7 @@
 -- and time went on.
 use Rattle.std.proofs.Common.{ℕ, List, [], ◌≤◌, ◌<◌, ◌-◌, length, Option}
 use Rattle.disk_model.specs.Medium.{Elapses}
-use Rattle.migrate_fns.specs.Stored.{answers_of, rules_of}
-use Rattle.run_model.specs.Edges.{converters_of}
+use Rattle.run_model.specs.Converters.{converters_of}
 use Rattle.per_runtime.specs.Memories.{IsRuntime, memory_of}
 use Rattle.per_run.specs.Steps.{Reached, outset, reading}
 use Rattle.per_run.proofs.Inputs.{Taken}
@@ -25,7 +24,7 @@ invariant-loop-taken g l = Read
     → Reached (outset g.D.Disk (converters_of l.migrations) start before) [] (g.K.Sink.written l.initial.sink)
     (reading (memory_of l.initial.reader.runtime) l.initial.reader.kept.items l.initial.reader.number)
     (g.D.Disk.medium l.initial.disk)
-    → Taken g.D.Disk.told (rules_of l.migrations) (answers_of l.migrations) (g.D.Disk.medium start)
+    → Taken g.D.Disk.told (converters_of l.migrations) (g.D.Disk.medium start)
     (g.S.Source.left l.initial.source) (g.S.Source.left l.source) before (g.K.Sink.written l.sink)
     (memory_of l.reader.runtime) (g.D.Disk.medium l.disk) l.reader.kept.items l.reader.number l.taken)
     (IsRuntime g.D.Disk.told (g.D.Disk.medium l.disk) l.reader.runtime)

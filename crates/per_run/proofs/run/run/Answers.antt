@@ -10,7 +10,7 @@ returns-in-Ok-clause-run g c =
     (elapses_on c.in-Ok.ensures.time c.handle_input.ensures.time) c.status.ensures
     c.handle_input.ensures.source_failed c.handle_input.ensures.blamed
     (c.handle_input.ensures.ran c.applications_stand.ensures c.args.disk.now
-    (handled_none _ _ _ _ _ _ _ c.start.ensures.time c.in-Ok.ensures.passes (λ tells. c.in-Ok.ensures.starts tells)))
+    (handled_none _ _ _ _ _ _ c.start.ensures.time c.in-Ok.ensures.passes (λ tells. c.in-Ok.ensures.starts tells)))
 
 pub returns-in-Ok-clause-time : goal.returns-in-Ok-clause-time
 returns-in-Ok-clause-time g c = elapses_on c.start.ensures.time c.handle_input.ensures.time

@@ -10,7 +10,7 @@ returns-in-Ok-clause-serves g c =
     serves_from g.D.Disk _ c.serve_input.result _ _ _ _ _ r c.serve_input.ensures.time
     c.status.ensures c.serve_input.ensures.source_failed c.serve_input.ensures.blamed
     (c.serve_input.ensures.served c.applications_stand.ensures r.start
-    (hearing_none _ _ _ _ _ _ _ r.time r.passes r.starts))
+    (hearing_none _ _ _ _ _ _ r.time r.passes r.starts))
 
 pub returns-in-Ok-clause-time : goal.returns-in-Ok-clause-time
 returns-in-Ok-clause-time g c = elapses_on c.prepare.ensures.time c.serve_input.ensures.time

@@ -6,14 +6,14 @@ use Rattle.per_run.proofs.serving.serve_all.Goals as goal
 
 pub returns-in-Ok-eq0-clause-served : goal.returns-in-Ok-eq0-clause-served
 returns-in-Ok-eq0-clause-served g c = λ laws start before l.
-    served_read _ _ _ _ _ before laws _ _ _ _ _ _ _ _ c.in-Ok-eq0.field-0 c.read_piece.new.buffer
+    served_read _ _ _ _ before laws _ _ _ _ _ _ _ _ c.in-Ok-eq0.field-0 c.read_piece.new.buffer
     (c.loop-pieces.invariant.goes_on start before l) c.in-Ok-eq0.field-0-test c.in-Ok-eq0.ensures.bytes.0
     (c.in-Ok-eq0.ensures.bytes.1 c.in-Ok-eq0.field-0-test)
 
 pub loop-pieces-preserved : goal.loop-pieces-preserved
 loop-pieces-preserved g c = record {
   goes_on = λ start before l.
-      taken_more _ _ _ _ _ before _ _ _ _ _ _ _ _ _ _ _ _ _ c.in-Ok.count c.read_piece.new.buffer
+      taken_more _ _ _ _ before _ _ _ _ _ _ _ _ _ _ _ _ _ c.in-Ok.count c.read_piece.new.buffer
       (c.loop-pieces.invariant.goes_on start before l) (omega arith)
       (omega (arith, c.in-Ok.ensures.bound, c.read_piece.auto.buffer))
       c.in-Ok.ensures.bytes.0 (λ given. c.in-Ok-serve_piece.ensures.goes_on start before given);
@@ -26,7 +26,7 @@ loop-pieces-preserved g c = record {
 
 pub returns-in-Err-serve_piece-clause-served : goal.returns-in-Err-serve_piece-clause-served
 returns-in-Err-serve_piece-clause-served g c = λ laws start before l.
-    served_piece _ _ _ _ _ before c.in-Err-serve_piece.ending _ _ _ _ _ _ _ _ _ _ c.in-Ok.count
+    served_piece _ _ _ _ before c.in-Err-serve_piece.ending _ _ _ _ _ _ _ _ _ _ c.in-Ok.count
     c.read_piece.new.buffer (c.loop-pieces.invariant.goes_on start before l) c.in-Ok.ensures.bytes.0
     c.in-Err-serve_piece.ensures.blames.broken
     (λ given. c.in-Err-serve_piece.ensures.ends laws start before given)
@@ -37,10 +37,10 @@ returns-in-Err-serve_piece-clause-time g c =
 
 pub returns-in-Err-clause-served : goal.returns-in-Err-clause-served
 returns-in-Err-clause-served g c = λ laws start before l.
-    served_source _ _ _ _ _ before laws _ _ _ _ _ _ _ _ (c.loop-pieces.invariant.goes_on start before l)
+    served_source _ _ _ _ before laws _ _ _ _ _ _ _ _ (c.loop-pieces.invariant.goes_on start before l)
     c.in-Err.ensures.bytes
 
 pub returns-clause-served : goal.returns-clause-served
 returns-clause-served g c = λ laws start before l.
-    served_long _ _ _ _ _ before laws _ _ _ _ _ _ _ (c.loop-pieces.invariant.goes_on start before l)
+    served_long _ _ _ _ before laws _ _ _ _ _ _ _ (c.loop-pieces.invariant.goes_on start before l)
     (omega (arith, c.loop-pieces-test.false))

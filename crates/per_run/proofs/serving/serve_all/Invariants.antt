@@ -2,8 +2,7 @@
 -- count of faults fell, and time went on.
 use Rattle.std.proofs.Common.{ℕ, List, [], ◌≤◌, ◌<◌, length, Option}
 use Rattle.disk_model.specs.Medium.{Elapses}
-use Rattle.migrate_fns.specs.Stored.{answers_of, rules_of}
-use Rattle.run_model.specs.Edges.{converters_of}
+use Rattle.run_model.specs.Converters.{converters_of}
 use Rattle.per_runtime.specs.Memories.{IsRuntime, memory_of}
 use Rattle.per_run.specs.Serving.{Listened}
 use Rattle.per_run.specs.Steps.{outset, reading}
@@ -24,7 +23,7 @@ invariant-loop-pieces g l = Read
     → Listened (outset g.D.Disk (converters_of l.migrations) start before) [] (g.K.Sink.written l.initial.sink)
     (reading (memory_of l.initial.reader.runtime) l.initial.reader.kept.items l.initial.reader.number)
     (g.D.Disk.medium l.initial.disk)
-    → HasTaken g.D.Disk.told (rules_of l.migrations) (answers_of l.migrations) (g.D.Disk.medium start)
+    → HasTaken g.D.Disk.told (converters_of l.migrations) (g.D.Disk.medium start)
     (g.S.Source.left l.initial.source) (g.S.Source.left l.source) before (g.K.Sink.written l.sink)
     (memory_of l.reader.runtime) (g.D.Disk.medium l.disk) l.reader.kept.items l.reader.number l._pieces)
     (IsRuntime g.D.Disk.told (g.D.Disk.medium l.disk) l.reader.runtime)

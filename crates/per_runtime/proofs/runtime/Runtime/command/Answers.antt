@@ -1,6 +1,6 @@
 use Rattle.std.proofs.Common.{le_refl, refl, sym}
 use Rattle.disk_model.specs.Laws.{elapses_none}
-use Rattle.migrate_fns.specs.Stored.{answers_of, rules_of}
+use Rattle.run_model.specs.Converters.{converters_of}
 use Rattle.per_runtime.proofs.Lifted.{not_four, now_steps}
 use Rattle.per_runtime.proofs.runtime.Runtime.command.Goals as goal
 
@@ -19,7 +19,7 @@ returns-in-Now g c =
           passes = λ other. refl;
         };
         stepped = λ tells doubt is. now_steps c.applications_stand.ensures c.running_is_application.ensures
-            (rules_of c.args.migrations.now) (answers_of c.args.migrations.now) g.D.Disk.told m
+            (converters_of c.args.migrations.now) g.D.Disk.told m
             r.now c.in-Now.moment r.apps.items r.in_doubt tells lawful c.requires.memory.apps c.requires.memory.quiet
             doubt is;
       };

@@ -1,6 +1,6 @@
 use Rattle.std.proofs.Common.{Err, ap, refl, true≢false}
 use Rattle.deploy.specs.declared.errors.Stop.{Stop}
-use Rattle.migrate_fns.specs.Stored.{answers_of, rules_of}
+use Rattle.run_model.specs.Converters.{converters_of}
 use Rattle.per_runtime.specs.Sorting.{asked_call}
 use Rattle.per_runtime.proofs.Handing.{answered_steps, answered_use, device_end, failed_steps, failed_use, left_alone}
 use Rattle.per_runtime.proofs.Handing.{memory_end, starves_in, stopped_steps, there}
@@ -21,8 +21,7 @@ returns-in-Ok g c =
     let r = c.args.self.now in
     let a = c.index_mut.result.now in
     let a' = c.answer.new.running in
-    let rules = rules_of c.args.migrations.now in
-    let answers = answers_of c.args.migrations.now in
+    let converters = converters_of c.args.migrations.now in
     let told = g.D.Disk.told in
     let old = g.D.Disk.medium c.args.disk.now in
     let new = g.D.Disk.medium c.answer.new.disk in
@@ -34,7 +33,7 @@ returns-in-Ok g c =
       end = record {
         memory = record {
           apps = answered_use c.applications_stand.ensures c.running_is_application.ensures c.running_stays.ensures
-              rules answers told old new r.now c.args.app (asked_call c.args.asked.now) r.apps.items a a' r.in_doubt
+              converters told old new r.now c.args.app (asked_call c.args.asked.now) r.apps.items a a' r.in_doubt
               c.requires.app c.requires.memory.apps c.requires.memory.quiet here c.requires.sure _ reads _ is
               c.in-Ok.reply is.end;
           quiet = λ sure. is.end.quiet (c.requires.memory.quiet sure);
@@ -46,7 +45,7 @@ returns-in-Ok g c =
           passes = λ other. is.end.passes;
         };
         stepped = λ tells doubt in_doubt. answered_steps c.applications_stand.ensures c.running_is_application.ensures
-            c.running_stays.ensures rules answers told old new r.now c.args.app (asked_call c.args.asked.now) r.apps.items
+            c.running_stays.ensures converters told old new r.now c.args.app (asked_call c.args.asked.now) r.apps.items
             a a'
             r.in_doubt
             c.requires.app c.requires.memory.apps c.requires.memory.quiet here c.requires.sure _ reads _ is
@@ -54,8 +53,8 @@ returns-in-Ok g c =
       };
       needs = λ tells bad. absurd cc;
       fed = λ bad. absurd cc;
-      idle = left_alone c.applications_stand.ensures c.running_is_application.ensures c.running_stays.ensures rules
-          answers told old new r.now c.args.app (asked_call c.args.asked.now) r.apps.items a a' r.in_doubt
+      idle = left_alone c.applications_stand.ensures c.running_is_application.ensures c.running_stays.ensures
+          converters told old new r.now c.args.app (asked_call c.args.asked.now) r.apps.items a a' r.in_doubt
           c.requires.app c.requires.memory.apps c.requires.memory.quiet here c.requires.sure _ reads _ is;
       time = is.time;
     }
@@ -65,8 +64,7 @@ returns-in-Err-Device g c =
     let r = c.args.self.now in
     let a = c.index_mut.result.now in
     let a' = c.answer.new.running in
-    let rules = rules_of c.args.migrations.now in
-    let answers = answers_of c.args.migrations.now in
+    let converters = converters_of c.args.migrations.now in
     let told = g.D.Disk.told in
     let old = g.D.Disk.medium c.args.disk.now in
     let new = g.D.Disk.medium c.answer.new.disk in
@@ -78,8 +76,8 @@ returns-in-Err-Device g c =
     rw c.refusal.ensures (record {
       end = record {
         memory = record {
-          apps = failed_use c.applications_stand.ensures c.running_is_application.ensures c.running_stays.ensures rules
-              answers told old new r.now c.args.app (asked_call c.args.asked.now) r.apps.items a a' r.in_doubt
+          apps = failed_use c.applications_stand.ensures c.running_is_application.ensures c.running_stays.ensures
+              converters told old new r.now c.args.app (asked_call c.args.asked.now) r.apps.items a a' r.in_doubt
               c.requires.app c.requires.memory.apps c.requires.memory.quiet here c.requires.sure _ reads _ is end;
           quiet = λ sure. absurd (true≢false sure);
         };
@@ -90,7 +88,7 @@ returns-in-Err-Device g c =
           passes = λ other. absurd (other refl);
         };
         stepped = λ tells doubt in_doubt. failed_steps c.applications_stand.ensures c.running_is_application.ensures
-            c.running_stays.ensures rules answers told old new r.now c.args.app (asked_call c.args.asked.now) r.apps.items
+            c.running_stays.ensures converters told old new r.now c.args.app (asked_call c.args.asked.now) r.apps.items
             a a'
             r.in_doubt
             c.requires.app c.requires.memory.apps c.requires.memory.quiet here c.requires.sure _ reads _ is end
@@ -98,8 +96,8 @@ returns-in-Err-Device g c =
       };
       needs = λ tells bad. absurd cc;
       fed = λ bad. absurd cc;
-      idle = left_alone c.applications_stand.ensures c.running_is_application.ensures c.running_stays.ensures rules
-          answers told old new r.now c.args.app (asked_call c.args.asked.now) r.apps.items a a' r.in_doubt
+      idle = left_alone c.applications_stand.ensures c.running_is_application.ensures c.running_stays.ensures
+          converters told old new r.now c.args.app (asked_call c.args.asked.now) r.apps.items a a' r.in_doubt
           c.requires.app c.requires.memory.apps c.requires.memory.quiet here c.requires.sure _ reads _ is;
       time = is.time;
     })
@@ -109,8 +107,7 @@ returns-in-Err-OutOfMemory g c =
     let r = c.args.self.now in
     let a = c.index_mut.result.now in
     let a' = c.answer.new.running in
-    let rules = rules_of c.args.migrations.now in
-    let answers = answers_of c.args.migrations.now in
+    let converters = converters_of c.args.migrations.now in
     let told = g.D.Disk.told in
     let old = g.D.Disk.medium c.args.disk.now in
     let new = g.D.Disk.medium c.answer.new.disk in
@@ -121,20 +118,20 @@ returns-in-Err-OutOfMemory g c =
     let end = memory_end _ _ _ c.in-Err-OutOfMemory.field-0 c.in-Err-OutOfMemory.field-0-is is.end in
     record {
       end = λ tells doubt in_doubt. stopped_steps c.applications_stand.ensures c.running_is_application.ensures
-          c.running_stays.ensures rules answers told old new r.now c.args.app (asked_call c.args.asked.now) r.apps.items a
+          c.running_stays.ensures converters told old new r.now c.args.app (asked_call c.args.asked.now) r.apps.items a
           a'
           r.in_doubt
           c.requires.app c.requires.memory.apps c.requires.memory.quiet here c.requires.sure _ reads _ is end tells
           doubt in_doubt;
       needs = λ tells bad. starves_in c.applications_stand.ensures c.running_is_application.ensures
-          c.running_stays.ensures rules answers told old new r.now c.args.app (asked_call c.args.asked.now) r.apps.items a
+          c.running_stays.ensures converters told old new r.now c.args.app (asked_call c.args.asked.now) r.apps.items a
           a'
           r.in_doubt
           c.requires.app c.requires.memory.apps c.requires.memory.quiet here c.requires.sure _ reads _ is
           (is.needs tells (ap (λ (x : Stop). Err x) c.in-Err-OutOfMemory.field-0-is));
       fed = λ bad. is.fed (ap (λ (x : Stop). Err x) c.in-Err-OutOfMemory.field-0-is);
-      idle = left_alone c.applications_stand.ensures c.running_is_application.ensures c.running_stays.ensures rules
-          answers told old new r.now c.args.app (asked_call c.args.asked.now) r.apps.items a a' r.in_doubt
+      idle = left_alone c.applications_stand.ensures c.running_is_application.ensures c.running_stays.ensures
+          converters told old new r.now c.args.app (asked_call c.args.asked.now) r.apps.items a a' r.in_doubt
           c.requires.app c.requires.memory.apps c.requires.memory.quiet here c.requires.sure _ reads _ is;
       time = is.time;
     }

@@ -1,6 +1,6 @@
 use Rattle.std.proofs.Common.{◌≡◌, ◌∙◌, None, ap, refl, sym, subst}
-use Rattle.migrate_fns.specs.Stored.{answers_of, rules_of}
 use Rattle.run_model.specs.Calls.{beside_update}
+use Rattle.run_model.specs.Converters.{converters_of}
 use Rattle.run_model.specs.Worlds.{update_in}
 use Rattle.per_runtime.specs.Sorting.{asked_call, storing_call}
 use Rattle.per_runtime.specs.declared.application.running.Stage.{Stage}
@@ -16,7 +16,7 @@ use Rattle.per_runtime.proofs.application_lemmas.StorageCalls.{stored_promises}
 use Rattle.per_runtime.proofs.application.running.Running.call.Goals as goal
 
 pub returns-in-Some : goal.returns-in-Some
-returns-in-Some g c = busy_promises g.D.Disk.told (rules_of c.args.migrations.now) (answers_of c.args.migrations.now)
+returns-in-Some g c = busy_promises g.D.Disk.told (converters_of c.args.migrations.now)
     c.args.now (asked_call c.args.asked.now) c.args.self.now (g.D.Disk.medium c.args.disk.now)
     (g.met.D.Disk.lawful c.args.disk.now) c.untouched_stands.ensures.untouched (c.args.disk.now ≡ c.args.disk.now) refl
     c.requires.memory c.in-Some.busy (sym c.busy_with.ensures ∙ c.in-Some.is)
@@ -31,8 +31,9 @@ deploy-requires g c = record {
 }
 
 pub returns-in-OfDeployment : goal.returns-in-OfDeployment
-returns-in-OfDeployment g c = subst (λ (x : Asked). Promises g.D.Disk.told (rules_of c.args.migrations.now)
-    (answers_of c.args.migrations.now) c.args.now (asked_call x) c.args.self.now c.deploy.new.self
+returns-in-OfDeployment g c = subst
+    (λ (x : Asked). Promises g.D.Disk.told (converters_of c.args.migrations.now) c.args.now (asked_call x)
+    c.args.self.now c.deploy.new.self
     (c.deploy.new.disk ≡ c.args.disk.now) (g.D.Disk.medium c.args.disk.now) (g.D.Disk.medium c.deploy.new.disk)
     c.deploy.result) (sym c.in-OfDeployment.is) c.deploy.ensures
 
@@ -52,20 +53,19 @@ call-requires g c = record {
 pub returns-in-AtRest : goal.returns-in-AtRest
 returns-in-AtRest g c =
     let told = g.D.Disk.told in
-    let rules = rules_of c.args.migrations.now in
-    let answers = answers_of c.args.migrations.now in
+    let converters = converters_of c.args.migrations.now in
     let s = c.args.self.now in
     let call = storing_call c.in-OnStorage.storing in
     let old = g.D.Disk.medium c.args.disk.now in
     let new = g.D.Disk.medium c.call.new.disk in
     let Untouched = c.call.new.disk ≡ c.args.disk.now in
-    subst (λ (x : Asked). Promises told rules answers c.args.now (asked_call x) s
+    subst (λ (x : Asked). Promises told converters c.args.now (asked_call x) s
     (record s { slots = c.call.new.self }) Untouched old new c.call.result) (sym c.in-OnStorage.is)
-    (subst (λ (x : Stage). Promises told rules answers c.args.now call (record s { stage = x })
+    (subst (λ (x : Stage). Promises told converters c.args.now call (record s { stage = x })
     (record s { stage = x; slots = c.call.new.self }) Untouched old new c.call.result) (sym c.in-AtRest.is)
-    (stored_promises told rules answers c.args.now call s c.in-AtRest.root c.call.new.self Untouched old new
+    (stored_promises told converters c.args.now call s c.in-AtRest.root c.call.new.self Untouched old new
     c.call.result (λ same. (ap (λ d. (g.D.Disk.medium d).image) same, ap (λ d. (g.D.Disk.medium d).written) same))
     (storing_on c.in-OnStorage.storing)
     (leads_on c.storages_lead_on.ensures c.rows_lead_on.ensures.install c.rows_lead_on.ensures.finish
-    c.rows_lead_on.ensures.rollback c.rows_lead_on.ensures.wipe c.rows_lead_on.ensures.update rules answers)
+    c.rows_lead_on.ensures.rollback c.rows_lead_on.ensures.wipe c.rows_lead_on.ensures.update converters)
     c.call.ensures))

@@ -11,7 +11,7 @@ use Rattle.deploy.specs.Roots.{RootAt, free_bank}
 use Rattle.deploy_laws.specs.Apps.{IsCleanApp, app_at}
 use Rattle.deploy_laws.specs.Places.{shapes_in}
 use Rattle.deploy_rows.specs.Rows.{updated_app}
-use Rattle.migrate_fns.specs.Stored.{answers_of, rules_of}
+use Rattle.run_model.specs.Converters.{converters_of}
 use Rattle.per_runtime.specs.storages.Answers.{CallsTo}
 use Rattle.per_runtime.specs.declared.application.running.Running.{Running}
 use Rattle.per_runtime.specs.declared.application.running.Stage.TheVariants.{AtRest}
@@ -39,11 +39,11 @@ pub returns-in_default : goal.returns-in_default
 returns-in_default g c = λ now.
     let s = c.args.self.now in
     let none = not_some c.take_update.result c.in_default.not-Some in
-    without_promises g.D.Disk.told (rules_of c.args.migrations.now) (answers_of c.args.migrations.now) now
+    without_promises g.D.Disk.told (converters_of c.args.migrations.now) now
     call.UpdateCommit s (g.D.Disk.medium c.args.disk.now) (g.met.D.Disk.lawful c.args.disk.now)
     c.untouched_stands.ensures.untouched (c.args.disk.now ≡ c.args.disk.now) refl c.requires.memory c.requires.opened
     (sym c.take_update.ensures.staged ∙ none) c.roots_in_use.ensures.app
-    (λ r rests. commit_refused_row (rules_of c.args.migrations.now) (answers_of c.args.migrations.now) s.app now r
+    (λ r rests. commit_refused_row (converters_of c.args.migrations.now) s.app now r
     rests)
     c.take_update.new.self (same_if_none c.take_update.result none c.take_update.ensures.same) c.without_update.result
     (c.without_update.ensures ∙ without_same s c.take_update.new.self
@@ -52,8 +52,7 @@ returns-in_default g c = λ now.
 pub returns-in_err-root : goal.returns-in_err-root
 returns-in_err-root g c = λ now.
     let told = g.D.Disk.told in
-    let rules = rules_of c.args.migrations.now in
-    let answers = answers_of c.args.migrations.now in
+    let converters = converters_of c.args.migrations.now in
     let s = c.args.self.now in
     let t = c.in-Some.staged in
     let taken = c.take_update.new.self in
@@ -74,17 +73,18 @@ returns-in_err-root g c = λ now.
     (subst (λ n. n < 8) (sym of_app) at.0.memory.below) (free_low (staged_root t)) (contents_few s.app t at.0.memory)
     is) c.commit_update.ensures.outside (c.commit_update.ensures.any_moment tells)) in
     let e = c.in_err-root.field-0.0 in
-    subst (λ (x : Result Reply Stop). Promises told rules answers now call.UpdateCommit s taken
+    subst (λ (x : Result Reply Stop). Promises told converters now call.UpdateCommit s taken
     (c.commit_update.new.disk ≡ c.args.disk.now) old new x)
     (sym (passed_on c.from_residual.result e c.from_residual.ensures.1))
-    (subst (λ (x : Running). Promises told rules answers now call.UpdateCommit x taken
+    (subst (λ (x : Running). Promises told converters now call.UpdateCommit x taken
     (c.commit_update.new.disk ≡ c.args.disk.now) old new (Err e)) (update_back s t stage_is)
-    (commit_failed told rules answers now s t old new (c.commit_update.new.disk ≡ c.args.disk.now) at.0
+    (commit_failed told converters now s t old new (c.commit_update.new.disk ≡ c.args.disk.now) at.0
     c.requires.memory.below at.1 c.roots_in_use.ensures.app c.rows_lead_on.ensures.update
     e taken c.in-Some.ensures.left (λ is. c.commit_update.ensures.cause
     (c.in_err-root.was ∙ ap (λ (x : Stop). Err x) is))
-    (λ is. c.commit_update.ensures.fed (c.in_err-root.was ∙ ap (λ (x : Stop). Err x) is)) calls c.commit_update.ensures.time
-    (commit_written told rules answers now s t old new (c.commit_update.new.disk ≡ c.args.disk.now) at.0
+    (λ is. c.commit_update.ensures.fed (c.in_err-root.was ∙ ap (λ (x : Stop). Err x) is)) calls
+    c.commit_update.ensures.time
+    (commit_written told converters now s t old new (c.commit_update.new.disk ≡ c.args.disk.now) at.0
     c.requires.memory.below at.1 c.roots_in_use.ensures.app
     (λ tells. c.roots_in_use.ensures.manifests old.image s.app (staged_root t) at.0.memory.root (at.0.root_on tells))
     c.commit_update.ensures.written
@@ -94,8 +94,7 @@ returns-in_err-root g c = λ now.
 pub returns : goal.returns
 returns g c = λ now.
     let told = g.D.Disk.told in
-    let rules = rules_of c.args.migrations.now in
-    let answers = answers_of c.args.migrations.now in
+    let converters = converters_of c.args.migrations.now in
     let s = c.args.self.now in
     let t = c.in-Some.staged in
     let taken = c.take_update.new.self in
@@ -115,23 +114,23 @@ returns g c = λ now.
     (length (staged_progress t).contents) f
     (subst (λ n. n < 8) (sym of_app) at.0.memory.below) (free_low (staged_root t)) (contents_few s.app t at.0.memory)
     is) c.commit_update.ensures.outside (c.commit_update.ensures.any_moment tells)) in
-    subst (λ (x : Running). Promises told rules answers now call.UpdateCommit s
+    subst (λ (x : Running). Promises told converters now call.UpdateCommit s
     (record x { stage = AtRest c.in_ok-root.root }) (c.commit_update.new.disk ≡ c.args.disk.now) old new
     (Ok c.answered.result)) (sym c.in-Some.ensures.left)
-    (subst (λ (x : Reply). Promises told rules answers now call.UpdateCommit s
+    (subst (λ (x : Reply). Promises told converters now call.UpdateCommit s
     (record s { stage = AtRest c.in_ok-root.root }) (c.commit_update.new.disk ≡ c.args.disk.now) old new (Ok x))
     (sym c.answered.ensures)
-    (subst (λ (x : Running). Promises told rules answers now call.UpdateCommit x
+    (subst (λ (x : Running). Promises told converters now call.UpdateCommit x
     (record s { stage = AtRest c.in_ok-root.root }) (c.commit_update.new.disk ≡ c.args.disk.now) old new
     (Ok (reply_with answer.Done))) (update_back s t stage_is)
-    (commit_done told rules answers now s t old new (c.commit_update.new.disk ≡ c.args.disk.now) at.0
+    (commit_done told converters now s t old new (c.commit_update.new.disk ≡ c.args.disk.now) at.0
     c.requires.memory.below at.1 c.roots_in_use.ensures.app c.rows_lead_on.ensures.update
     c.in_ok-root.root (subst (λ n. RootAt told new.image n c.in_ok-root.root) of_app c.in_ok-root.ensures.root)
     (λ tells. subst (λ n. app_at new.image n ≡ updated_app (staged_progress t) (app_at old.image n)) of_app
     (c.in_ok-root.ensures.app tells)) calls
     (λ tells. subst (λ n. IsCleanApp n old.image → IsCleanApp n new.image) of_app (c.in_ok-root.ensures.clean tells))
     (λ quiet. c.in_ok-root.ensures.quiet) c.in_ok-root.ensures.passes c.commit_update.ensures.time
-    (commit_written told rules answers now s t old new (c.commit_update.new.disk ≡ c.args.disk.now) at.0
+    (commit_written told converters now s t old new (c.commit_update.new.disk ≡ c.args.disk.now) at.0
     c.requires.memory.below at.1 c.roots_in_use.ensures.app
     (λ tells. c.roots_in_use.ensures.manifests old.image s.app (staged_root t) at.0.memory.root (at.0.root_on tells))
     c.commit_update.ensures.written

@@ -5,7 +5,7 @@ use Rattle.deploy_laws.specs.Apps.{IsCleanApp}
 use Rattle.deploy_rows.specs.Rows.{after, finishing}
 use Rattle.deploy_laws.specs.Apps.{app_at}
 use Rattle.command_text.specs.declared.calls.Call.TheVariants as call
-use Rattle.migrate_fns.specs.Stored.{answers_of, rules_of}
+use Rattle.run_model.specs.Converters.{converters_of}
 use Rattle.per_runtime.specs.storages.Slots.{resting_with}
 use Rattle.per_runtime.proofs.application_lemmas.Ended.{on_clean, resting_in, word_promises}
 use Rattle.per_runtime.proofs.application_lemmas.Frames.{calls_to, no_root}
@@ -30,14 +30,14 @@ returns g c = λ now.
     let made = c.finish-made.result in
     let resting = resting_in told old.image s root c.requires.memory c.requires.rests c.take_root-root.ensures.root in
     let outside = c.finish-made.ensures.outside s.app resting.below resting.root_at in
-    word_promises told (rules_of c.args.migrations.now) (answers_of c.args.migrations.now) now call.Finish s
+    word_promises told (converters_of c.args.migrations.now) now call.Finish s
     c.take_root-root.new.self root old new (c.finish-made.new.disk ≡ c.args.disk.now)
     (λ same. (ap (λ d. (g.D.Disk.medium d).image) same, ap (λ d. (g.D.Disk.medium d).written) same))
     c.requires.memory c.requires.rests c.take_root-root.ensures.root c.take_root-root.ensures.left
     c.roots_in_use.ensures.app finishing (λ e. ⊤)
-    (finish_word told (rules_of c.args.migrations.now) (answers_of c.args.migrations.now) s.app now old.image s.slots
+    (finish_word told (converters_of c.args.migrations.now) s.app now old.image s.slots
     c.rows_read_the_root.ensures.finish c.rows_lead_on.ensures.finish)
-    (λ tells. finish_within told (rules_of c.args.migrations.now) (answers_of c.args.migrations.now) s.app now
+    (λ tells. finish_within told (converters_of c.args.migrations.now) s.app now
     (resting_with old.image s.app s.slots) old new tells root
     (c.roots_in_use.ensures.manifests old.image s.app root resting.root_at.memory (resting.root_at.disk tells))
     outside c.finish-made.ensures.written)

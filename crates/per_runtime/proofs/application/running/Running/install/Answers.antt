@@ -6,8 +6,9 @@ use Rattle.deploy_laws.specs.Apps.{IsCleanApp, app_at}
 use Rattle.deploy_rows.specs.Rows.{after, installing}
 use Rattle.command_text.specs.declared.calls.Call.TheVariants as call
 use Rattle.per_runtime.specs.declared.application.running.Running.{Running}
-use Rattle.migrate_fns.specs.Stored.{answers_of, rules_of}
+use Rattle.run_model.specs.Converters.{converters_of}
 use Rattle.run_model.specs.Turns.{bytes_now}
+use Rattle.run_model.specs.Worlds.{application_at}
 use Rattle.run_model.specs.Writes.{IsCallWithin}
 use Rattle.per_runtime.specs.storages.Slots.{resting_with}
 use Rattle.per_runtime.proofs.application_lemmas.Ended.{clean_less, resting_in, word_promises}
@@ -20,9 +21,10 @@ use Rattle.per_runtime.proofs.application_lemmas.Words.{install_word}
 use Rattle.per_runtime.proofs.application.running.Running.install.Goals as goal
 
 pub returns-in-Updating : goal.returns-in-Updating
-returns-in-Updating g c = install_refused g.D.Disk.told (rules_of c.args.migrations.now)
-    (answers_of c.args.migrations.now) c.args.now c.args.manifest.now c.args.self.now (g.D.Disk.medium c.args.disk.now)
-    (g.met.D.Disk.lawful c.args.disk.now) c.untouched_stands.ensures.untouched (c.args.disk.now ≡ c.args.disk.now) refl
+returns-in-Updating g c = install_refused g.D.Disk.told (converters_of c.args.migrations.now) c.args.now
+    c.args.manifest.now c.args.self.now (g.D.Disk.medium c.args.disk.now)
+    (g.met.D.Disk.lawful c.args.disk.now) c.untouched_stands.ensures.untouched (c.args.disk.now ≡ c.args.disk.now)
+    refl
     c.requires.memory c.roots_in_use.ensures.app c.in-Updating.field-0 c.in-Updating.is c.refusal.result
     c.refusal.ensures
 
@@ -49,21 +51,23 @@ returns g c =
     let made = c.install-made.result in
     let row = installing c.args.now c.args.manifest.now in
     let back = sym (ap (λ (x : Running). x.app) c.take_root-root.ensures.left) in
-    let resting = resting_in told old.image s root c.requires.memory (not_updating c.args.self.now.stage c.requires.opened
+    let resting = resting_in told old.image s root c.requires.memory
+    (not_updating c.args.self.now.stage c.requires.opened
     c.in_default.not-Updating) c.take_root-root.ensures.root in
-    word_promises told (rules_of c.args.migrations.now) (answers_of c.args.migrations.now) c.args.now
+    word_promises told (converters_of c.args.migrations.now) c.args.now
     (call.Install c.args.manifest.now) s taken root old new (c.install-made.new.disk ≡ c.args.disk.now)
     (λ same. (ap (λ d. (g.D.Disk.medium d).image) same, ap (λ d. (g.D.Disk.medium d).written) same))
     c.requires.memory (not_updating c.args.self.now.stage c.requires.opened c.in_default.not-Updating)
     c.take_root-root.ensures.root c.take_root-root.ensures.left
     c.roots_in_use.ensures.app row AllocatesNothing
-    (install_word told (rules_of c.args.migrations.now) (answers_of c.args.migrations.now) s.app c.args.now old.image
+    (install_word told (converters_of c.args.migrations.now) s.app c.args.now old.image
     s.slots c.args.manifest.now (c.rows_read_the_root.ensures.install c.args.now c.args.manifest.now)
     c.rows_lead_on.ensures.install)
-    (λ tells. subst (λ n. IsCallWithin (rules_of c.args.migrations.now) (answers_of c.args.migrations.now) n c.args.now
-    (resting_with old.image s.app s.slots) (call.Install c.args.manifest.now) (bytes_now old) (bytes_now new))
+    (λ tells. subst (λ n. IsCallWithin (converters_of c.args.migrations.now)
+    (application_at n c.args.now (resting_with old.image s.app s.slots)) (call.Install c.args.manifest.now)
+    (bytes_now old) (bytes_now new))
     (ap (λ (x : Running). x.app) c.take_root-root.ensures.left)
-    (install_within told (rules_of c.args.migrations.now) (answers_of c.args.migrations.now) taken.app c.args.now
+    (install_within told (converters_of c.args.migrations.now) taken.app c.args.now
     (resting_with old.image s.app s.slots) old new tells c.args.manifest.now c.install-made.ensures.written
     c.install-made.ensures.places))
     made

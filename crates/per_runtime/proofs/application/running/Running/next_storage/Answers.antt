@@ -9,7 +9,7 @@ use Rattle.deploy.specs.Making.{IsInNone}
 use Rattle.deploy.specs.Roots.{free_bank}
 use Rattle.deploy_laws.specs.Apps.{IsCleanApp, app_at}
 use Rattle.deploy_laws.specs.Places.{IsBeside, shapes_in}
-use Rattle.migrate_fns.specs.Stored.{answers_of, rules_of}
+use Rattle.run_model.specs.Converters.{converters_of}
 use Rattle.per_runtime.specs.storages.Answers.{CallsTo}
 use Rattle.per_runtime.specs.declared.application.running.Running.{Running}
 use Rattle.per_runtime.specs.declared.application.running.Stage.TheVariants.{Updating}
@@ -37,11 +37,11 @@ pub returns-in_default : goal.returns-in_default
 returns-in_default g c = λ now.
     let s = c.args.self.now in
     let none = not_some c.take_update.result c.in_default.not-Some in
-    without_promises g.D.Disk.told (rules_of c.args.migrations.now) (answers_of c.args.migrations.now) now
+    without_promises g.D.Disk.told (converters_of c.args.migrations.now) now
     call.UpdateNext s (g.D.Disk.medium c.args.disk.now) (g.met.D.Disk.lawful c.args.disk.now)
     c.untouched_stands.ensures.untouched (c.args.disk.now ≡ c.args.disk.now) refl c.requires.memory c.requires.opened
     (sym c.take_update.ensures.staged ∙ none) c.roots_in_use.ensures.app
-    (λ r rests. next_refused_row (rules_of c.args.migrations.now) (answers_of c.args.migrations.now) s.app now r rests)
+    (λ r rests. next_refused_row (converters_of c.args.migrations.now) s.app now r rests)
     c.take_update.new.self (same_if_none c.take_update.result none c.take_update.ensures.same) c.without_update.result
     (c.without_update.ensures ∙ without_same s c.take_update.new.self
     (same_if_none c.take_update.result none c.take_update.ensures.same))
@@ -49,8 +49,7 @@ returns-in_default g c = λ now.
 pub returns-in_err-staged : goal.returns-in_err-staged
 returns-in_err-staged g c = λ now.
     let told = g.D.Disk.told in
-    let rules = rules_of c.args.migrations.now in
-    let answers = answers_of c.args.migrations.now in
+    let converters = converters_of c.args.migrations.now in
     let s = c.args.self.now in
     let t = c.in-Some.staged in
     let taken = c.take_update.new.self in
@@ -66,17 +65,18 @@ returns-in_err-staged g c = λ now.
     (built_few s.app t at.0.memory) is) c.next_storage.ensures.outside
     (c.next_storage.ensures.any_moment tells)) in
     let e = c.in_err-staged.field-0.0 in
-    subst (λ (x : Result Reply Stop). Promises told rules answers now call.UpdateNext s taken
+    subst (λ (x : Result Reply Stop). Promises told converters now call.UpdateNext s taken
     (c.next_storage.new.disk ≡ c.args.disk.now) old new x)
     (sym (passed_on c.from_residual.result e c.from_residual.ensures.1))
-    (subst (λ (x : Running). Promises told rules answers now call.UpdateNext x taken
+    (subst (λ (x : Running). Promises told converters now call.UpdateNext x taken
     (c.next_storage.new.disk ≡ c.args.disk.now) old new (Err e)) (update_back s t stage_is)
-    (next_failed told rules answers now s t old new (c.next_storage.new.disk ≡ c.args.disk.now) at.0
+    (next_failed told converters now s t old new (c.next_storage.new.disk ≡ c.args.disk.now) at.0
     c.requires.memory.below at.1 c.roots_in_use.ensures.app
     e taken c.in-Some.ensures.left (λ is. c.next_storage.ensures.cause
     (c.in_err-staged.was ∙ ap (λ (x : Stop). Err x) is))
-    (λ is. c.next_storage.ensures.fed (c.in_err-staged.was ∙ ap (λ (x : Stop). Err x) is)) calls c.next_storage.ensures.time
-    (next_written told rules answers now s t old new (c.next_storage.new.disk ≡ c.args.disk.now) at.0
+    (λ is. c.next_storage.ensures.fed (c.in_err-staged.was ∙ ap (λ (x : Stop). Err x) is)) calls
+    c.next_storage.ensures.time
+    (next_written told converters now s t old new (c.next_storage.new.disk ≡ c.args.disk.now) at.0
     c.requires.memory.below at.1 c.roots_in_use.ensures.app c.next_storage.ensures.written
     (subst (λ n. Leaves told (IsInNone (take 1 (drop (staged_progress t).built (shapes_in n (offered_in t))))) old new)
     of_app c.next_storage.ensures.places))))
@@ -84,8 +84,7 @@ returns-in_err-staged g c = λ now.
 pub returns : goal.returns
 returns g c = λ now.
     let told = g.D.Disk.told in
-    let rules = rules_of c.args.migrations.now in
-    let answers = answers_of c.args.migrations.now in
+    let converters = converters_of c.args.migrations.now in
     let s = c.args.self.now in
     let t = c.in-Some.staged in
     let taken = c.take_update.new.self in
@@ -100,23 +99,23 @@ returns g c = λ now.
     tells (λ f is. beside t.app (free_bank (staged_root t)) (staged_progress t).built f (free_low (staged_root t))
     (built_few s.app t at.0.memory) is) c.next_storage.ensures.outside
     (c.next_storage.ensures.any_moment tells)) in
-    subst (λ (x : Running). Promises told rules answers now call.UpdateNext s
+    subst (λ (x : Running). Promises told converters now call.UpdateNext s
     (record x { stage = Updating c.in_ok-staged.staged }) (c.next_storage.new.disk ≡ c.args.disk.now) old new
     (Ok c.answered.result)) (sym c.in-Some.ensures.left)
-    (subst (λ (x : Reply). Promises told rules answers now call.UpdateNext s
+    (subst (λ (x : Reply). Promises told converters now call.UpdateNext s
     (record s { stage = Updating c.in_ok-staged.staged }) (c.next_storage.new.disk ≡ c.args.disk.now) old new
     (Ok x)) (sym c.answered.ensures)
-    (subst (λ (x : Running). Promises told rules answers now call.UpdateNext x
+    (subst (λ (x : Running). Promises told converters now call.UpdateNext x
     (record s { stage = Updating c.in_ok-staged.staged }) (c.next_storage.new.disk ≡ c.args.disk.now) old new
     (Ok (reply_with (answer.Number c.from.result)))) (update_back s t stage_is)
-    (next_done told rules answers now s t old new (c.next_storage.new.disk ≡ c.args.disk.now) at.0
+    (next_done told converters now s t old new (c.next_storage.new.disk ≡ c.args.disk.now) at.0
     c.requires.memory.below at.1 c.roots_in_use.ensures.app
     c.in_ok-staged.staged c.from.result c.in_ok-staged.ensures.progress (c.from.ensures ∙ c.remaining-remaining.ensures)
     (subst (λ n. StagedAt told new.image n c.in_ok-staged.staged) of_app c.in_ok-staged.ensures.staged)
     (λ tells. subst (λ n. app_at new.image n ≡ app_at old.image n) of_app (c.next_storage.ensures.app tells)) calls
     (λ tells. subst (λ n. IsCleanApp n old.image → IsCleanApp n new.image) of_app (c.next_storage.ensures.clean tells))
     c.in_ok-staged.ensures.quiet c.in_ok-staged.ensures.passes c.next_storage.ensures.time
-    (next_written told rules answers now s t old new (c.next_storage.new.disk ≡ c.args.disk.now) at.0
+    (next_written told converters now s t old new (c.next_storage.new.disk ≡ c.args.disk.now) at.0
     c.requires.memory.below at.1 c.roots_in_use.ensures.app c.next_storage.ensures.written
     (subst (λ n. Leaves told (IsInNone (take 1 (drop (staged_progress t).built (shapes_in n (offered_in t))))) old new)
     of_app c.next_storage.ensures.places)))))

@@ -7,7 +7,7 @@ use Rattle.deploy.specs.Roots.{root_says}
 use Rattle.deploy_laws.specs.Apps.{IsCleanApp, app_at}
 use Rattle.deploy_rows.specs.Rows.{after, rolling_back}
 use Rattle.command_text.specs.declared.calls.Call.TheVariants as call
-use Rattle.migrate_fns.specs.Stored.{answers_of, rules_of}
+use Rattle.run_model.specs.Converters.{converters_of}
 use Rattle.per_runtime.specs.storages.Slots.{resting_with}
 use Rattle.per_runtime.specs.declared.application.running.Running.{Running}
 use Rattle.per_runtime.specs.application.Needs.{no_way_back}
@@ -34,11 +34,11 @@ pub returns-in-Some : goal.returns-in-Some
 returns-in-Some g c = λ now.
     let s = c.args.self.now in
     let refused = sym c.no_way_back.ensures ∙ c.in-Some.is in
-    early_promises g.D.Disk.told (rules_of c.args.migrations.now) (answers_of c.args.migrations.now) now call.Rollback s
+    early_promises g.D.Disk.told (converters_of c.args.migrations.now) now call.Rollback s
     (g.D.Disk.medium c.args.disk.now) (g.met.D.Disk.lawful c.args.disk.now) c.untouched_stands.ensures.untouched
     (c.args.disk.now ≡ c.args.disk.now) refl c.requires.memory c.requires.rests c.roots_in_use.ensures.app no_way_back
     c.in-Some.error (back_plain (root_says (stage_root s.stage)) c.in-Some.error refused) refused
-    (λ r rests is. back_row (rules_of c.args.migrations.now) (answers_of c.args.migrations.now) s.app now r rests
+    (λ r rests is. back_row (converters_of c.args.migrations.now) s.app now r rests
     c.in-Some.error is) c.refusal.result c.refusal.ensures
 
 -- ---- it goes on
@@ -51,7 +51,7 @@ returns-in_err-busy g c = λ now.
     let root = c.take_root-root.result in
     let old = g.D.Disk.medium c.args.disk.now in
     let resting = resting_in told old.image s root c.requires.memory c.requires.rests c.take_root-root.ensures.root in
-    starved_promises told (rules_of c.args.migrations.now) (answers_of c.args.migrations.now) now call.Rollback s old
+    starved_promises told (converters_of c.args.migrations.now) now call.Rollback s old
     (g.met.D.Disk.lawful c.args.disk.now) c.untouched_stands.ensures.untouched (c.args.disk.now ≡ c.args.disk.now) refl
     c.requires.memory
     (back_starves told s taken root old now resting c.requires.rests c.roots_in_use.ensures.app
@@ -75,15 +75,15 @@ returns g c = λ now.
     let resting = resting_in told old.image s root c.requires.memory c.requires.rests c.take_root-root.ensures.root in
     let busy_is = busy_here s taken root c.as_ref.result c.in_ok-busy.busy c.take_root-root.ensures.left
     c.as_ref.ensures.value c.in_ok-busy.ensures.busy in
-    word_promises told (rules_of c.args.migrations.now) (answers_of c.args.migrations.now) now call.Rollback s taken
+    word_promises told (converters_of c.args.migrations.now) now call.Rollback s taken
     root old new (c.rollback-made.new.disk ≡ c.args.disk.now)
     (λ same. (ap (λ d. (g.D.Disk.medium d).image) same, ap (λ d. (g.D.Disk.medium d).written) same))
     c.requires.memory c.requires.rests c.take_root-root.ensures.root c.take_root-root.ensures.left
     c.roots_in_use.ensures.app row Due
-    (rollback_word told (rules_of c.args.migrations.now) (answers_of c.args.migrations.now) s.app now old.image s.slots
+    (rollback_word told (converters_of c.args.migrations.now) s.app now old.image s.slots
     busy (busy_least told old.image s.app root s.slots c.roots_in_use.ensures.app resting busy busy_is)
     (c.rows_read_the_root.ensures.rollback busy) c.rows_lead_on.ensures.rollback)
-    (λ tells. rollback_within told (rules_of c.args.migrations.now) (answers_of c.args.migrations.now) s.app now
+    (λ tells. rollback_within told (converters_of c.args.migrations.now) s.app now
     (resting_with old.image s.app s.slots) old new tells root
     (c.roots_in_use.ensures.manifests old.image s.app root resting.root_at.memory (resting.root_at.disk tells))
     (c.rollback-made.ensures.outside s.app resting.below resting.root_at) c.rollback-made.ensures.written)

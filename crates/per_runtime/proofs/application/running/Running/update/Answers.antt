@@ -3,7 +3,7 @@ use Rattle.std.specs.Prelude.{option_map}
 use Rattle.deploy.specs.Roots.{RootAt, root_says}
 use Rattle.deploy_laws.specs.Apps.{IsCleanApp}
 use Rattle.command_text.specs.declared.calls.Call.TheVariants as call
-use Rattle.migrate_fns.specs.Stored.{answers_of, rules_of}
+use Rattle.run_model.specs.Converters.{converters_of}
 use Rattle.per_runtime.specs.declared.application.running.Running.{Running}
 use Rattle.per_runtime.specs.application.Promises.{Promises}
 use Rattle.per_runtime.specs.application.Needs.{no_update_over}
@@ -31,12 +31,12 @@ pub returns-in-Some : goal.returns-in-Some
 returns-in-Some g c =
     let s = c.args.self.now in
     let refused = sym c.no_update_over.ensures ∙ c.in-Some.is in
-    early_promises g.D.Disk.told (rules_of c.args.migrations.now) (answers_of c.args.migrations.now) c.args.now
+    early_promises g.D.Disk.told (converters_of c.args.migrations.now) c.args.now
     (call.Update c.args.manifest.now) s (g.D.Disk.medium c.args.disk.now) (g.met.D.Disk.lawful c.args.disk.now)
     c.untouched_stands.ensures.untouched (c.args.disk.now ≡ c.args.disk.now) refl c.requires.memory c.requires.rests
     c.roots_in_use.ensures.app no_update_over c.in-Some.error
     (update_plain (root_says (stage_root s.stage)) c.in-Some.error refused) refused
-    (λ r rests is. update_row (rules_of c.args.migrations.now) (answers_of c.args.migrations.now) s.app c.args.now r rests
+    (λ r rests is. update_row (converters_of c.args.migrations.now) s.app c.args.now r rests
     c.in-Some.error c.args.manifest.now is) c.refusal.result c.refusal.ensures
 
 -- ---- it goes on
@@ -49,7 +49,7 @@ returns-in_err-busy g c =
     let root = c.take_root-root.result in
     let old = g.D.Disk.medium c.args.disk.now in
     let resting = resting_in told old.image s root c.requires.memory c.requires.rests c.take_root-root.ensures.root in
-    starved_promises told (rules_of c.args.migrations.now) (answers_of c.args.migrations.now) c.args.now
+    starved_promises told (converters_of c.args.migrations.now) c.args.now
     (call.Update c.args.manifest.now) s old (g.met.D.Disk.lawful c.args.disk.now)
     c.untouched_stands.ensures.untouched (c.args.disk.now ≡ c.args.disk.now) refl c.requires.memory
     (update_starves told s taken root old c.args.now resting c.requires.rests c.roots_in_use.ensures.app
@@ -67,17 +67,16 @@ returns g c =
     let old = g.D.Disk.medium c.args.disk.now in
     let new = g.D.Disk.medium c.update-made.new.disk in
     let made = c.update-made.result in
-    let rules = rules_of c.args.migrations.now in
-    let answers = answers_of c.args.migrations.now in
+    let converters = converters_of c.args.migrations.now in
     let text = c.args.manifest.now in
     let busy = option_map (λ n. n.now) c.as_ref.result in
     let resting = resting_in told old.image s root c.requires.memory c.requires.rests c.take_root-root.ensures.root in
     let busy_is = busy_here s taken root c.as_ref.result c.in_ok-busy.busy c.take_root-root.ensures.left
     c.as_ref.ensures.value c.in_ok-busy.ensures.busy in
-    subst (λ (x : Running). Promises told rules answers c.args.now (call.Update text) x c.conclude.new.self
+    subst (λ (x : Running). Promises told converters c.args.now (call.Update text) x c.conclude.new.self
     (c.update-made.new.disk ≡ c.args.disk.now) old new c.conclude.result)
     (stage_back s root c.requires.rests c.take_root-root.ensures.root)
-    (updated_promises told rules answers c.args.now text s root old new (c.update-made.new.disk ≡ c.args.disk.now)
+    (updated_promises told converters c.args.now text s root old new (c.update-made.new.disk ≡ c.args.disk.now)
     resting c.roots_in_use.ensures.app c.rows_read_the_root.ensures.offer busy busy_is
     c.rows_lead_on.ensures.update
     (λ tells. c.roots_in_use.ensures.manifests old.image s.app root resting.root_at.memory
@@ -85,7 +84,7 @@ returns g c =
     (goes_over s root c.no_update_over.result c.take_root-root.ensures.root c.no_update_over.ensures
     c.in_default.not-Some)
     made
-    (subst (λ n. Updates told rules answers c.args.now text n root busy old new made)
+    (subst (λ n. Updates told converters c.args.now text n root busy old new made)
     (ap (λ (x : Running). x.app) c.take_root-root.ensures.left) (record {
       root_at = c.update-made.ensures.root;
       updates = c.update-made.ensures.updates;

@@ -6,8 +6,9 @@ use Rattle.deploy.specs.Roots.{RootAt}
 use Rattle.deploy_laws.specs.Apps.{IsCleanApp, app_at}
 use Rattle.deploy_rows.specs.Rows.{after, wiping}
 use Rattle.command_text.specs.declared.calls.Call.TheVariants as call
-use Rattle.migrate_fns.specs.Stored.{answers_of, rules_of}
+use Rattle.run_model.specs.Converters.{converters_of}
 use Rattle.run_model.specs.Turns.{bytes_now}
+use Rattle.run_model.specs.Worlds.{application_at}
 use Rattle.run_model.specs.Writes.{IsCallWithin}
 use Rattle.per_runtime.specs.storages.Slots.{resting_with}
 use Rattle.per_runtime.specs.declared.application.running.Running.{Running}
@@ -41,8 +42,9 @@ returns-in_err-busy g c = λ now.
     let root = c.take_root-root.result in
     let old = g.D.Disk.medium c.args.disk.now in
     let resting = resting_in told old.image s root c.requires.memory c.requires.rests c.take_root-root.ensures.root in
-    starved_promises told (rules_of c.args.migrations.now) (answers_of c.args.migrations.now) now call.Wipe s old
-    (g.met.D.Disk.lawful c.args.disk.now) c.untouched_stands.ensures.untouched (c.args.disk.now ≡ c.args.disk.now) refl
+    starved_promises told (converters_of c.args.migrations.now) now call.Wipe s old
+    (g.met.D.Disk.lawful c.args.disk.now) c.untouched_stands.ensures.untouched (c.args.disk.now ≡ c.args.disk.now)
+    refl
     c.requires.memory
     (wipe_starves told s taken root old now resting c.requires.rests c.roots_in_use.ensures.app
     c.take_root-root.ensures.left c.in_err-busy.ensures.memory)
@@ -65,18 +67,18 @@ returns g c = λ now.
     let back = sym (ap (λ (x : Running). x.app) c.take_root-root.ensures.left) in
     let busy_is = busy_here s taken root c.as_ref.result c.in_ok-busy.busy c.take_root-root.ensures.left
     c.as_ref.ensures.value c.in_ok-busy.ensures.busy in
-    word_promises told (rules_of c.args.migrations.now) (answers_of c.args.migrations.now) now call.Wipe s taken root
+    word_promises told (converters_of c.args.migrations.now) now call.Wipe s taken root
     old new (c.wipe-made.new.disk ≡ c.args.disk.now)
     (λ same. (ap (λ d. (g.D.Disk.medium d).image) same, ap (λ d. (g.D.Disk.medium d).written) same))
     c.requires.memory c.requires.rests c.take_root-root.ensures.root c.take_root-root.ensures.left
     c.roots_in_use.ensures.app row Due
-    (wipe_word told (rules_of c.args.migrations.now) (answers_of c.args.migrations.now) s.app now old.image s.slots busy
+    (wipe_word told (converters_of c.args.migrations.now) s.app now old.image s.slots busy
     (busy_least told old.image s.app root s.slots c.roots_in_use.ensures.app resting busy busy_is)
     (c.rows_read_the_root.ensures.wipe busy) c.rows_lead_on.ensures.wipe)
-    (λ tells. subst (λ n. IsCallWithin (rules_of c.args.migrations.now) (answers_of c.args.migrations.now) n now
-    (resting_with old.image s.app s.slots) call.Wipe (bytes_now old) (bytes_now new))
+    (λ tells. subst (λ n. IsCallWithin (converters_of c.args.migrations.now)
+    (application_at n now (resting_with old.image s.app s.slots)) call.Wipe (bytes_now old) (bytes_now new))
     (ap (λ (x : Running). x.app) c.take_root-root.ensures.left)
-    (wipe_within told (rules_of c.args.migrations.now) (answers_of c.args.migrations.now) taken.app now
+    (wipe_within told (converters_of c.args.migrations.now) taken.app now
     (resting_with old.image s.app s.slots) old new tells root
     (says_in_use c.roots_in_use.ensures.app told old.image s.app root resting.root_at tells)
     c.wipe-made.ensures.written c.wipe-made.ensures.at_most c.wipe-made.ensures.outside))
