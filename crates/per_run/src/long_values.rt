@@ -1,5 +1,5 @@
-//! The reply that has a list or a group of fields, written piece by piece, so that its text is never there as a whole:
-//! each empty list of a value has the type of its items in the text, and that of 65,536 bytes may have a thousand million.
+//! The reply that has a list or a group of fields, written piece by piece, so that its text is never there as a whole.
+//! It has the type of its items for each empty list, and may have a thousand million bytes.
 
 ghost use Rattle.std.specs.Prelude.{◌≡◌, ◌++◌, ◌∷◌, [], OnOk, OnErr, IfSome, codes};
 ghost use Rattle.std.specs.Io.KnownBytes.{Appends};

@@ -54,8 +54,10 @@ fn element_length(alloc: Global, element: &Fresh) -> Result<u64, AllocError> {
     let name = string_length(element.name.as_str().as_bytes());
     let bytes = element.bytes.as_slice();
     if element.info.is_some() {
-        let digits = 2 * (bytes.len() as u64);
-        return Ok(name.saturating_add(digits).saturating_add(FILE_BYTES));
+        return Ok(
+            name.saturating_add(digits_length(bytes))
+                .saturating_add(FILE_BYTES),
+        );
     }
     match decode(alloc, bytes) {
         Ok(value) => Ok(
@@ -81,7 +83,7 @@ fn node_length(node: &Node) -> u64 {
         Node::I32(_) => 15,
         Node::U64(_) | Node::I64(_) => 24,
         Node::Text(text) => text_length(text.as_str().as_bytes()).saturating_add(9),
-        Node::Bytes(bytes) => 2_u64.saturating_mul(bytes.len() as u64).saturating_add(6),
+        Node::Bytes(bytes) => digits_length(bytes.as_slice()).saturating_add(6),
         Node::List(item, items) => type_length(item)
             .saturating_add(nodes_length(items.as_slice()))
             .saturating_add(8),
@@ -122,6 +124,11 @@ fn types_length(types: &[ValueType]) -> u64 {
 }
 
 // ---- strings
+
+/// How many bytes the digits of bytes take.
+fn digits_length(bytes: &[u8]) -> u64 {
+    (bytes.len() as u64).saturating_mul(2)
+}
 
 /// How many bytes a text of a value takes, which is escaped as one and in the string.
 fn text_length(text: &[u8]) -> u64 {
