@@ -43,8 +43,8 @@ put_node-returns-in_err-put-in-Text-clause-puts g t c =
     c.in-Text.text) c.in_err-put-in-Text.ensures.puts)) (text_value c.args.node.now c.in-Text.text c.in-Text.text
     c.in-Text.is refl)
 
-    pub put_node-returns-in_err-put_escaped-in-Text-clause-puts :
-    goal.put_node-returns-in_err-put_escaped-in-Text-clause-puts
+pub put_node-returns-in_err-put_escaped-in-Text-clause-puts
+    : goal.put_node-returns-in_err-put_escaped-in-Text-clause-puts
 put_node-returns-in_err-put_escaped-in-Text-clause-puts g t c =
     let w = g.K.Sink.written in
     let a = w c.args.sink.now in
@@ -56,8 +56,8 @@ put_node-returns-in_err-put_escaped-in-Text-clause-puts g t c =
     c.as_bytes.result.now) c.in_ok-put-in-Text.ensures.puts c.in_err-put_escaped-in-Text.ensures.puts)) (text_value
     c.args.node.now c.in-Text.text c.as_bytes.result.now c.in-Text.is (search rules))
 
-    pub put_node-returns-in_ok-put_escaped-in-Text-clause-puts :
-    goal.put_node-returns-in_ok-put_escaped-in-Text-clause-puts
+pub put_node-returns-in_ok-put_escaped-in-Text-clause-puts
+    : goal.put_node-returns-in_ok-put_escaped-in-Text-clause-puts
 put_node-returns-in_ok-put_escaped-in-Text-clause-puts g t c =
     let w = g.K.Sink.written in
     let a = w c.args.sink.now in
@@ -185,8 +185,8 @@ put_node-returns-in_err-put-in-Fields-clause-puts g t c =
     (trees_view c.in-Fields.members.items)) c.in_err-put-in-Fields.ensures.puts)) (fields_value c.args.node.now
     c.in-Fields.members c.in-Fields.members.items c.in-Fields.is refl)
 
-    pub put_node-returns-in_err-put_items-in-Fields-clause-puts :
-    goal.put_node-returns-in_err-put_items-in-Fields-clause-puts
+pub put_node-returns-in_err-put_items-in-Fields-clause-puts
+    : goal.put_node-returns-in_err-put_items-in-Fields-clause-puts
 put_node-returns-in_err-put_items-in-Fields-clause-puts g t c =
     let w = g.K.Sink.written in
     let a = w c.args.sink.now in
@@ -199,8 +199,8 @@ put_node-returns-in_err-put_items-in-Fields-clause-puts g t c =
     c.in_ok-put-in-Fields.ensures.puts c.in_err-put_items-in-Fields.ensures.puts)) (fields_value c.args.node.now
     c.in-Fields.members c.as_slice-in-Fields.result.now c.in-Fields.is (search rules))
 
-    pub put_node-returns-in_ok-put_items-in-Fields-clause-puts :
-    goal.put_node-returns-in_ok-put_items-in-Fields-clause-puts
+pub put_node-returns-in_ok-put_items-in-Fields-clause-puts
+    : goal.put_node-returns-in_ok-put_items-in-Fields-clause-puts
 put_node-returns-in_ok-put_items-in-Fields-clause-puts g t c =
     let w = g.K.Sink.written in
     let a = w c.args.sink.now in

@@ -15,8 +15,8 @@ put_further_type-returns-clause-puts g t c =
     c.put_type.result a (w c.put.new.sink) (w c.put_type.new.sink) u _ _ (44 ∷ []) (type_text (kind_of
     c.args.value_type.now)) c.in_ok-put.ensures.puts c.put_type.ensures.puts) refl
 
-    pub put_member_types-returns-in_err-put_further_type-clause-puts :
-    goal.put_member_types-returns-in_err-put_further_type-clause-puts
+pub put_member_types-returns-in_err-put_further_type-clause-puts
+    : goal.put_member_types-returns-in_err-put_further_type-clause-puts
 put_member_types-returns-in_err-put_further_type-clause-puts g t c =
     let w = g.K.Sink.written in
     let a = w c.args.sink.now in
@@ -30,7 +30,7 @@ put_member_types-returns-in_err-put_further_type-clause-puts g t c =
     c.loop-member-test.true c.member-item.is))
 
 pub put_member_types-loop-member-preserved : goal.put_member_types-loop-member-preserved
-    put_member_types-loop-member-preserved g t c = goes_on _ _ (g.K.Sink.written c.put_further_type.new.sink) _ _ _ _
+put_member_types-loop-member-preserved g t c = goes_on _ _ (g.K.Sink.written c.put_further_type.new.sink) _ _ _ _
     _ _ _ _ _ _
     c.loop-member.invariant c.in_ok-put_further_type.ensures.puts c.in_ok-put_further_type.ensures.cause.later
     (next_type c.in-Some.others.now c.loop-member.member-index c.member-item.result c.loop-member-test.true
@@ -83,8 +83,8 @@ put_type-returns-in_err-put-in-Fields-clause-puts g t c =
     (kinds_view c.in-Fields.members.items)) c.in_err-put-in-Fields.ensures.puts)) (fields_type c.args.value_type.now
     c.in-Fields.members c.in-Fields.members.items c.in-Fields.is refl)
 
-    pub put_type-returns-in_err-put_member_types-in-Fields-clause-puts :
-    goal.put_type-returns-in_err-put_member_types-in-Fields-clause-puts
+pub put_type-returns-in_err-put_member_types-in-Fields-clause-puts
+    : goal.put_type-returns-in_err-put_member_types-in-Fields-clause-puts
 put_type-returns-in_err-put_member_types-in-Fields-clause-puts g t c =
     let w = g.K.Sink.written in
     let a = w c.args.sink.now in
@@ -97,8 +97,8 @@ put_type-returns-in_err-put_member_types-in-Fields-clause-puts g t c =
     c.in_err-put_member_types-in-Fields.ensures.puts)) (fields_type c.args.value_type.now c.in-Fields.members
     c.as_slice.result.now c.in-Fields.is (search rules))
 
-    pub put_type-returns-in_ok-put_member_types-in-Fields-clause-puts :
-    goal.put_type-returns-in_ok-put_member_types-in-Fields-clause-puts
+pub put_type-returns-in_ok-put_member_types-in-Fields-clause-puts
+    : goal.put_type-returns-in_ok-put_member_types-in-Fields-clause-puts
 put_type-returns-in_ok-put_member_types-in-Fields-clause-puts g t c =
     let w = g.K.Sink.written in
     let a = w c.args.sink.now in
