@@ -37,7 +37,7 @@ use std::io::IsTerminal;
 use std::process::{self, ExitCode};
 
 /// The version of the sources.
-const VERSION: &str = "0.23.0";
+const VERSION: &str = "0.24.0";
 
 /// What is said to a person who is to type an export.
 const EXPORT_AWAITED: &str =
