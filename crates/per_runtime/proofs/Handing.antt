@@ -18,7 +18,8 @@ use Rattle.run_model.specs.Converters.{Converters}
 use Rattle.run_model.specs.Runtimes.{IsDoubt, Stepped, Stopped, calls_none, world_of, runtime_at}
 use Rattle.run_model.specs.Steps.{calls_device, failure}
 use Rattle.run_model.specs.Lasting.{IsWorld}
-use Rattle.run_model.specs.Worlds.{Application, Doubt, app_of}
+use Rattle.run_model.specs.Worlds.{Application, Doubt, app_of, application_at}
+use Rattle.per_runtime.specs.Served.{call_at, on_disk, terms}
 use Rattle.per_runtime.specs.declared.application.running.Running.{Running}
 use Rattle.per_runtime.specs.application.Running.{IsRunning, application}
 use Rattle.per_runtime.specs.Handled.{IfEnded, IsCallInProgress, IsCommandAnswered, IsFailed, IsHandled}
@@ -61,7 +62,7 @@ module _ (laws : AppLaws) (makes : MakesOne) (stays : StaysInUse) (converters : 
     (calm : b ≡ true → IsTrue told → (x : Running) → slice_get apps n ≡ Some x
     → calls_device (application old.image x) c ≡ false)
     (Untouched : Type 0) (reads : Untouched → OnlyReads old new) (result : Result Reply Stop)
-    (h : IsHandled told converters now c a a' Untouched old new result) where
+    (h : IsHandled (terms told converters) (call_at now c) (on_disk a old) (on_disk a' new) Untouched result) where
   number : a.app ≡ n
   number = (are.each n a there_is).0
 
@@ -94,11 +95,13 @@ module _ (laws : AppLaws) (makes : MakesOne) (stays : StaysInUse) (converters : 
 
   -- answered
 
-  pub answered_use : (reply : Reply) → IsCommandAnswered told converters now c a a' old new reply
+  pub answered_use : (reply : Reply)
+      → IsCommandAnswered (terms told converters) (call_at now c) (on_disk a old) (on_disk a' new) reply
       → AreRunning told new.image (slice_set apps n a')
   answered_use reply is = in_use is.app is.memory (λ tells. (is.done tells).calls.elsewhere)
 
-  pub answered_steps : (reply : Reply) → IsCommandAnswered told converters now c a a' old new reply → IsTrue told
+  pub answered_steps : (reply : Reply)
+      → IsCommandAnswered (terms told converters) (call_at now c) (on_disk a old) (on_disk a' new) reply → IsTrue told
       → (doubt : Option Doubt) → IsDoubt (kept now apps b) doubt
       → Stepped converters (event.App n c) reply doubt (runtime_at (kept now apps b) old)
       (runtime_at (kept now (slice_set apps n a') b) new)
@@ -113,10 +116,12 @@ module _ (laws : AppLaws) (makes : MakesOne) (stays : StaysInUse) (converters : 
 
   -- failed at the device
 
-  pub failed_use : IsFailed told converters now c a a' old new → AreRunning told new.image (slice_set apps n a')
+  pub failed_use : IsFailed (terms told converters) (call_at now c) (on_disk a old) (on_disk a' new)
+      → AreRunning told new.image (slice_set apps n a')
   failed_use is = in_use is.app is.memory (λ tells. (is.progress tells).calls.elsewhere)
 
-  pub failed_steps : IsFailed told converters now c a a' old new → IsLawful told new → IsTrue told
+  pub failed_steps : IsFailed (terms told converters) (call_at now c) (on_disk a old) (on_disk a' new)
+      → IsLawful told new → IsTrue told
       → (doubt : Option Doubt) → IsDoubt (kept now apps b) doubt
       → Stepped converters (event.App n c) failure doubt (runtime_at (kept now apps b) old)
       (runtime_at (kept now (slice_set apps n a') true) new)
@@ -129,7 +134,8 @@ module _ (laws : AppLaws) (makes : MakesOne) (stays : StaysInUse) (converters : 
 
   -- out of memory
 
-  pub stopped_steps : (IsTrue told → IsCallInProgress converters a.app now c (application old.image a) old new)
+  pub stopped_steps : (IsTrue told
+      → IsCallInProgress converters (application_at a.app now (application old.image a)) c old new)
       → IsTrue told → (doubt : Option Doubt) → IsDoubt (kept now apps b) doubt
       → Stopped converters (event.App n c) doubt (runtime_at (kept now apps b) old) new
   stopped_steps is tells None sure = stopped_sure laws converters told tells old new now n c apps a a' below

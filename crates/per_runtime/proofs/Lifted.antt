@@ -35,6 +35,7 @@ use Rattle.run_model.specs.Turns.{IsBlamed, bytes_now}
 use Rattle.run_model.specs.Worlds.{Application, Disks, Doubt, World, app_of, disk_at, disks, is_to_open, update_in}
 use Rattle.run_model.specs.Worlds.{with_app, world_at, application_at}
 use Rattle.run_model.specs.Writes.{IsCallWithin, IsCommandWithin, OnlyOpens, OpensAtMost}
+use Rattle.per_runtime.specs.Served.{call_at, on_disk, terms}
 use Rattle.per_runtime.specs.storages.Answers.{CallsTo}
 use Rattle.per_runtime.specs.storages.Handled.{StaysInPlace}
 use Rattle.per_runtime.specs.declared.application.running.Running.{Running}
@@ -242,7 +243,8 @@ module _ (laws : AppLaws) (converters : Converters) (told : Bool) (tells : IsTru
 
   -- ---- where it leads
 
-  leads_on : (next : App) → IsLedTo converters n now c (application old.image a) next → (doubt : Option Doubt)
+  leads_on : (next : App) → IsLedTo converters (application_at n now (application old.image a)) c next
+      → (doubt : Option Doubt)
       → Leads converters (before doubt) e (after next)
   unfolding e after was before
   leads_on next (inl same) doubt = inl (set_same was n next
@@ -268,11 +270,13 @@ module _ (laws : AppLaws) (converters : Converters) (told : Bool) (tells : IsTru
 
   -- ---- it was answered, without a doubt before it
 
-  done_calls : (reply : Reply) → IsCommandAnswered told converters now c a a' old new reply
+  done_calls : (reply : Reply)
+      → IsCommandAnswered (terms told converters) (call_at now c) (on_disk a old) (on_disk a' new) reply
       → CallsTo n (app_at new.image n) old new
   done_calls reply h = subst (λ k. CallsTo k (app_at new.image k) old new) number (h.done tells).calls
 
-  done_step : (reply : Reply) (doubt : Option Doubt) → IsCommandAnswered told converters now c a a' old new reply
+  done_step : (reply : Reply) (doubt : Option Doubt)
+      → IsCommandAnswered (terms told converters) (call_at now c) (on_disk a old) (on_disk a' new) reply
       → AppStep converters (application_at n now (app_of (before doubt) n)) c (reply, application new.image a')
   done_step reply doubt h = subst (λ (r : Application).
       AppStep converters (application_at n now r) c (reply, application new.image a')) (sym (it_is doubt))
@@ -280,7 +284,8 @@ module _ (laws : AppLaws) (converters : Converters) (told : Bool) (tells : IsTru
       (reply, application new.image a')) number
       (h.done tells).step)
 
-  blamed_on : (reply : Reply) → IsCommandAnswered told converters now c a a' old new reply
+  blamed_on : (reply : Reply)
+      → IsCommandAnswered (terms told converters) (call_at now c) (on_disk a old) (on_disk a' new) reply
       → IsBlamed old.faults new.faults reply
   blamed_on reply h = record {
     later = time.faults;
@@ -305,7 +310,8 @@ module _ (laws : AppLaws) (converters : Converters) (told : Bool) (tells : IsTru
       ∙ disks_set (before None) n (application new.image a') doubt'
       ∙ ap (λ (k : ℕ). slice_set (disks (before None)) n (app_at new.image k)) number'
 
-  pub answered_sure : (reply : Reply) (b : Bool) → false ≡ b → IsCommandAnswered told converters now c a a' old new
+  pub answered_sure : (reply : Reply) (b : Bool) → false ≡ b
+      → IsCommandAnswered (terms told converters) (call_at now c) (on_disk a old) (on_disk a' new)
       reply
       → Quiet old
       → ((doubt : Option Doubt) → IsWorld (world new.image now (slice_set apps n a') doubt))
@@ -365,7 +371,8 @@ module _ (laws : AppLaws) (converters : Converters) (told : Bool) (tells : IsTru
   }
 
   pub answered_doubtful : (reply : Reply) (d : Doubt) (b : Bool) → true ≡ b
-      → IsCommandAnswered told converters now c a a' old new reply → calls_device (application old.image a) c ≡ false
+      → IsCommandAnswered (terms told converters) (call_at now c) (on_disk a old) (on_disk a' new) reply
+      → calls_device (application old.image a) c ≡ false
       → ((doubt : Option Doubt) → IsWorld (world new.image now (slice_set apps n a') doubt))
       → Stepped converters (event.App n c) reply (Some d) (runtime_at (kept now apps b) old)
       (runtime_at (kept now (slice_set apps n a') b) new)
@@ -402,18 +409,19 @@ module _ (laws : AppLaws) (converters : Converters) (told : Bool) (tells : IsTru
 
   -- ---- its device failed, without a doubt before it
 
-  failed_is : IsFailed told converters now c a a' old new
+  failed_is : IsFailed (terms told converters) (call_at now c) (on_disk a old) (on_disk a' new)
       → FailsAs n now (app_at new.image n) (app_of (before None) n) c (application new.image a')
   failed_is h = subst (λ (r : Application). FailsAs n now (app_at new.image n) r c (application new.image a'))
       (sym (it_is None))
       (subst (λ k. FailsAs k now (app_at new.image k) (application old.image a) c (application new.image a')) number
       (h.fails tells))
 
-  led_on : (next : App) → IsLedTo converters a.app now c (application old.image a) next
-      → IsLedTo converters n now c (application old.image a) next
-  led_on next led = subst (λ k. IsLedTo converters k now c (application old.image a) next) number led
+  led_on : (next : App) → IsLedTo converters (application_at a.app now (application old.image a)) c next
+      → IsLedTo converters (application_at n now (application old.image a)) c next
+  led_on next led = subst (λ k. IsLedTo converters (application_at k now (application old.image a)) c next) number led
 
-  pub failed_sure : (b : Bool) → false ≡ b → IsFailed told converters now c a a' old new → IsLawful told new
+  pub failed_sure : (b : Bool) → false ≡ b
+      → IsFailed (terms told converters) (call_at now c) (on_disk a old) (on_disk a' new) → IsLawful told new
       → Quiet old
       → ((doubt : Option Doubt) → IsWorld (world new.image now (slice_set apps n a') doubt))
       → Stepped converters (event.App n c) failure None (runtime_at (kept now apps b) old)
@@ -461,8 +469,8 @@ module _ (laws : AppLaws) (converters : Converters) (told : Bool) (tells : IsTru
 
   -- ---- memory ran out
 
-  pub stopped_sure : (b : Bool) → false ≡ b → IsCallInProgress converters a.app now c
-      (application old.image a) old new
+  pub stopped_sure : (b : Bool) → false ≡ b
+      → IsCallInProgress converters (application_at a.app now (application old.image a)) c old new
       → Quiet old
       → Stopped converters (event.App n c) None (runtime_at (kept now apps b) old) new
   unfolding before after was e

@@ -35,6 +35,7 @@ use Rattle.run_model.specs.WriteLaws.{call_behind, call_unbegun, opens_alone, op
 use Rattle.run_model.specs.Worlds.{Application, Stage, Sessions, at_rest, is_to_open, none_open, to_open, update_in}
 use Rattle.run_model.specs.Worlds.{application_at}
 use Rattle.run_model.specs.Writes.{IsCallWithin, NeedsNothing}
+use Rattle.per_runtime.specs.Served.{call_at, on_disk, terms}
 use Rattle.per_runtime.specs.storages.Answers.{CallsTo}
 use Rattle.per_runtime.specs.application.Answers as calls
 use Rattle.per_runtime.specs.application.Answers.{HasRow}
@@ -52,7 +53,8 @@ not_opened r rests = ap (λ (b : Bool). cond b (record r { disk = reopened r.dis
 
 row_step : (converters : Converters) (app now : ℕ) (c : Call) (before behind : Application)
     (outcome : Outcome) → behind ≡ root_opened before
-    → HasRow converters app now c behind outcome → AppStep converters (application_at app now before) c outcome
+    → HasRow converters (application_at app now behind) c outcome
+    → AppStep converters (application_at app now before) c outcome
 row_step converters app now c before behind outcome is row =
     subst (λ (r : Application). StepBeside converters (application_at app now r) c
     (beside_update (update_in r.stage) c) outcome) is
@@ -60,7 +62,8 @@ row_step converters app now c before behind outcome is row =
 
 led : (converters : Converters) (app now : ℕ) (c : Call) (before : Application) (next : App)
     → before ≡ root_opened before
-    → calls.MayLead converters app now c before next → IsLedTo converters app now c before next
+    → calls.MayLead converters (application_at app now before) c next
+    → IsLedTo converters (application_at app now before) c next
 led converters app now c before next is (inl same) = inl same
 led converters app now c before next is (inr row) =
     inr (row.0, row_step converters app now c before before row.0 is row.1, row.2)
@@ -78,10 +81,10 @@ memory_left e = cc
 -- by how the call ends
 called : (told : Bool) (converters : Converters) (now : ℕ) (c : Call) (a a' : Running)
     (Untouched : Type 0) (old new : Medium) (result : Result Reply Stop) → is_to_open (stage_in a.stage) ≡ false
-    → Promises told converters now c a a' Untouched old new result
-    → IfEnded result (IsCommandAnswered told converters now c a a' old new)
-    (IsFailed told converters now c a a' old new)
-    (IsTrue told → IsCallInProgress converters a.app now c (application old.image a) old new)
+    → Promises (terms told converters) (call_at now c) (on_disk a old) (on_disk a' new) Untouched result
+    → IfEnded result (IsCommandAnswered (terms told converters) (call_at now c) (on_disk a old) (on_disk a' new))
+    (IsFailed (terms told converters) (call_at now c) (on_disk a old) (on_disk a' new))
+    (IsTrue told → IsCallInProgress converters (application_at a.app now (application old.image a)) c old new)
 called told converters now c a a' Untouched old new (Ok reply) rests said = record {
   app = said.app;
   memory = said.memory (λ e. absurd cc);
@@ -132,8 +135,8 @@ called told converters now c a a' Untouched old new (Err OutOfMemory) rests said
 -- a call whose root is in use promises as one whose root is opened first where it is to be opened
 pub promised : (told : Bool) (converters : Converters) (now : ℕ) (c : Call) (a a' : Running)
     (Untouched : Type 0) (old new : Medium) (result : Result Reply Stop) → is_to_open (stage_in a.stage) ≡ false
-    → Promises told converters now c a a' Untouched old new result
-    → IsHandled told converters now c a a' Untouched old new result
+    → Promises (terms told converters) (call_at now c) (on_disk a old) (on_disk a' new) Untouched result
+    → IsHandled (terms told converters) (call_at now c) (on_disk a old) (on_disk a' new) Untouched result
 promised told converters now c a a' Untouched old new result rests said = record {
   end = called told converters now c a a' Untouched old new result rests said;
   needs = λ tells bad. inr (said.stopped tells bad).needs;
@@ -278,7 +281,8 @@ module _ (mend : RootMendLaw) (told : Bool) (converters : Converters) (now : ℕ
   -- ---- the opening failed
 
   unopened : (mid : Medium) → IsTrue told → ((next : App) → IsLater (app_at old.image a.app) next
-      → CallsTo a.app next old mid) → IsCallInProgress converters a.app now c (application old.image a) old mid
+      → CallsTo a.app next old mid)
+      → IsCallInProgress converters (application_at a.app now (application old.image a)) c old mid
   unopened mid tells way = record {
     next = app_at old.image a.app;
     leads = inl refl;
@@ -290,9 +294,9 @@ module _ (mend : RootMendLaw) (told : Bool) (converters : Converters) (now : ℕ
   pub opening_failed : (stop : Stop) → IsRunning told mid.image b → running_in b ≡ running_in a
       → (IsTrue told → (next : App) → IsLater (app_at old.image a.app) next → CallsTo a.app next old mid)
       → (stop ≡ Device → Rose old.faults mid.faults)
-      → IfEnded (Err stop) (IsCommandAnswered told converters now c a b old mid)
-      (IsFailed told converters now c a b old mid)
-      (IsTrue told → IsCallInProgress converters a.app now c (application old.image a) old mid)
+      → IfEnded (Err stop) (IsCommandAnswered (terms told converters) (call_at now c) (on_disk a old) (on_disk b mid))
+      (IsFailed (terms told converters) (call_at now c) (on_disk a old) (on_disk b mid))
+      (IsTrue told → IsCallInProgress converters (application_at a.app now (application old.image a)) c old mid)
   opening_failed Device memory kept way cause = record {
     app = same;
     memory = memory;
@@ -340,9 +344,10 @@ module _ (mend : RootMendLaw) (told : Bool) (converters : Converters) (now : ℕ
         (subst (λ (k : ℕ). CallsTo k next mid new) same calls)
 
     -- what was there before is what is there with its root opened, but for the copies that lacked it
-    progress_by : IsTrue told → (next : App) → IsLedTo converters b.app now c (application mid.image b) next
+    progress_by : IsTrue told → (next : App)
+        → IsLedTo converters (application_at b.app now (application mid.image b)) c next
         → IsLater (app_at mid.image b.app) next → CallsTo b.app next mid new
-        → IsCallInProgress converters a.app now c (application old.image a) old new
+        → IsCallInProgress converters (application_at a.app now (application old.image a)) c old new
     progress_by tells next (inl is) later calls = record {
       next = app_at old.image a.app;
       leads = inl refl;
@@ -358,8 +363,9 @@ module _ (mend : RootMendLaw) (told : Bool) (converters : Converters) (now : ℕ
       calls = calls_on next tells later calls;
     }
 
-    progress_on : IsTrue told → IsCallInProgress converters b.app now c (application mid.image b) mid new
-        → IsCallInProgress converters a.app now c (application old.image a) old new
+    progress_on : IsTrue told
+        → IsCallInProgress converters (application_at b.app now (application mid.image b)) c mid new
+        → IsCallInProgress converters (application_at a.app now (application old.image a)) c old new
     progress_on tells p = progress_by tells p.next p.leads p.later p.calls
 
     fails_on : IsTrue told → FailsAs b.app now (app_at new.image b.app) (application mid.image b) c
@@ -374,12 +380,12 @@ module _ (mend : RootMendLaw) (told : Bool) (converters : Converters) (now : ℕ
         (found_named (root_opened (application mid.image b)) c))) same call))
 
     pub opened_first : (result : Result Reply Stop) → Elapses old mid
-        → IfEnded result (IsCommandAnswered told converters now c b a' mid new)
-        (IsFailed told converters now c b a' mid new)
-        (IsTrue told → IsCallInProgress converters b.app now c (application mid.image b) mid new)
-        → IfEnded result (IsCommandAnswered told converters now c a a' old new)
-        (IsFailed told converters now c a a' old new)
-        (IsTrue told → IsCallInProgress converters a.app now c (application old.image a) old new)
+        → IfEnded result (IsCommandAnswered (terms told converters) (call_at now c) (on_disk b mid) (on_disk a' new))
+        (IsFailed (terms told converters) (call_at now c) (on_disk b mid) (on_disk a' new))
+        (IsTrue told → IsCallInProgress converters (application_at b.app now (application mid.image b)) c mid new)
+        → IfEnded result (IsCommandAnswered (terms told converters) (call_at now c) (on_disk a old) (on_disk a' new))
+        (IsFailed (terms told converters) (call_at now c) (on_disk a old) (on_disk a' new))
+        (IsTrue told → IsCallInProgress converters (application_at a.app now (application old.image a)) c old new)
     opened_first (Ok reply) first h = record {
       app = h.app ∙ same;
       memory = h.memory;

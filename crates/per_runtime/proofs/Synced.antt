@@ -33,6 +33,7 @@ use Rattle.run_model.specs.Writes.{IsCommandWithin, OnlyOpens}
 use Rattle.run_model.specs.Steps.{Leads, calls_device, doubt_after, failure}
 use Rattle.run_model.specs.Lasting.{IsWorld}
 use Rattle.run_model.specs.Worlds.{Application, Doubt, World, app_of, with_app, without_doubt}
+use Rattle.per_runtime.specs.Served.{on_disk, terms}
 use Rattle.per_runtime.specs.application.Running.{running_in}
 use Rattle.per_runtime.specs.declared.runtime.Runtime.{Runtime}
 use Rattle.per_runtime.specs.Commands.{CallsDevice, IsCommand}
@@ -320,8 +321,9 @@ module _ (converters : Converters) (told : Bool) (n : ℕ) (c : Call) (r : Runti
 
     -- after the sync the command went on without a doubt
     pub resumed : (Behind Whole : Type 0) (result : Result Reply Stop)
-        → IsCommand told converters (event.App n c) (record r { in_doubt = false }) r' Behind mid new result
-        → IsCommand told converters (event.App n c) r r' Whole old new result
+        → IsCommand (terms told converters) (event.App n c) (on_disk (record r { in_doubt = false }) mid)
+        (on_disk r' new) Behind result
+        → IsCommand (terms told converters) (event.App n c) (on_disk r old) (on_disk r' new) Whole result
     resumed behind whole (Ok reply) h = record {
       end = record {
         memory = h.end.memory;
@@ -355,7 +357,7 @@ module _ (converters : Converters) (told : Bool) (n : ℕ) (c : Call) (r : Runti
       (is_world makes told old.image r.now r.apps.items (Some d) tells used.apps)
 
   pub still_doubtful : (Untouched : Type 0) → MakesOne → OnlyReads old mid → Rose old.faults mid.faults
-      → IsCommand told converters (event.App n c) r r Untouched old mid (Ok failure)
+      → IsCommand (terms told converters) (event.App n c) (on_disk r old) (on_disk r mid) Untouched (Ok failure)
   still_doubtful untouched makes reads rose = record {
     end = record {
       memory = record {

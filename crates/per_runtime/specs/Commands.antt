@@ -8,11 +8,11 @@ use Rattle.command_text.specs.declared.replies.Reply.{Reply}
 use Rattle.command_text.specs.Replies.{HasText}
 use Rattle.deploy.specs.declared.errors.Stop.{Stop}
 use Rattle.deploy.specs.declared.errors.Stop.TheVariants.{OutOfMemory}
-use Rattle.run_model.specs.Converters.{Converters}
 use Rattle.run_model.specs.Worlds.{Doubt}
 use Rattle.run_model.specs.Steps.{calls_device}
-use Rattle.run_model.specs.Runtimes.{IsDoubt, Stepped, Stopped, calls_none, world_of, runtime_at}
+use Rattle.run_model.specs.Runtimes.{IsDoubt, Stepped, Stopped, calls_none, runtime_at, RuntimeAt, world_in}
 use Rattle.run_model.specs.Turns.{IsBlamed}
+use Rattle.per_runtime.specs.Served.{OnDisk, Terms}
 use Rattle.per_runtime.specs.declared.application.running.Running.{Running}
 use Rattle.per_runtime.specs.application.Running.{application}
 use Rattle.per_runtime.specs.declared.runtime.Runtime.{Runtime}
@@ -25,23 +25,26 @@ abbrev pub CallsDevice : (told : Bool) → Image → Runtime → ℕ → Call �
 CallsDevice told image r app c calls = IsTrue told → (a : Running) → slice_get r.apps.items app ≡ Some a
     → calls_device (application image a) c ≡ calls
 
--- the event `e` was answered: `r` is the runtime before it and `r'` after it
-pub record IsReplied (told : Bool) (converters : Converters) (e : Event) (r r' : Runtime)
-    (old new : Medium) (reply : Reply) : Type 0 where
-  pub memory : IsRuntime told new r'
+-- the runtime as it was before a command or is after it
+abbrev pub runtime_in : OnDisk Runtime → RuntimeAt Medium
+runtime_in at = runtime_at (memory_of at.held) at.disk
+
+-- the event `e` was answered
+pub record IsReplied (under : Terms) (e : Event) (before after : OnDisk Runtime) (reply : Reply) : Type 0 where
+  pub memory : IsRuntime under.told after.disk after.held
   pub text : HasText reply.answer
-  pub blamed : IsBlamed old.faults new.faults reply
-  pub stepped : IsTrue told → (doubt : Option Doubt) → IsDoubt (memory_of r) doubt
-      → Stepped converters e reply doubt (runtime_at (memory_of r) old) (runtime_at (memory_of r') new)
+  pub blamed : IsBlamed before.disk.faults after.disk.faults reply
+  pub stepped : IsTrue under.told → (doubt : Option Doubt) → IsDoubt (memory_of before.held) doubt
+      → Stepped under.converters e reply doubt (runtime_in before) (runtime_in after)
 
 -- the event `e` was answered, or memory ran out, which alone ends the run; `Untouched` says that the disk is as it was
-pub record IsCommand (told : Bool) (converters : Converters) (e : Event) (r r' : Runtime)
-    (Untouched : Type 0) (old new : Medium) (result : Result Reply Stop) : Type 0 where
-  pub end : IfEnded result (IsReplied told converters e r r' old new) ⊥
-      (IsTrue told → (doubt : Option Doubt) → IsDoubt (memory_of r) doubt
-      → Stopped converters e doubt (runtime_at (memory_of r) old) new)
-  pub needs : IsTrue told → IsErrOf result OutOfMemory → CommandMayStarve (world_of old.image (memory_of r) None) e
+pub record IsCommand (under : Terms) (e : Event) (before after : OnDisk Runtime) (Untouched : Type 0)
+    (result : Result Reply Stop) : Type 0 where
+  pub end : IfEnded result (IsReplied under e before after) ⊥
+      (IsTrue under.told → (doubt : Option Doubt) → IsDoubt (memory_of before.held) doubt
+      → Stopped under.converters e doubt (runtime_in before) after.disk)
+  pub needs : IsTrue under.told → IsErrOf result OutOfMemory → CommandMayStarve (world_in (runtime_in before) None) e
   -- where memory ran out no call of the disk had failed
-  pub fed : IsErrOf result OutOfMemory → new.faults ≡ old.faults
-  pub idle : IsTrue told → calls_none (world_of old.image (memory_of r) None) e ≡ true → Untouched
-  pub time : Elapses old new
+  pub fed : IsErrOf result OutOfMemory → after.disk.faults ≡ before.disk.faults
+  pub idle : IsTrue under.told → calls_none (world_in (runtime_in before) None) e ≡ true → Untouched
+  pub time : Elapses before.disk after.disk

@@ -1,3 +1,4 @@
+pub mod Served
 pub mod Memories
 pub mod Begun
 pub mod Needs

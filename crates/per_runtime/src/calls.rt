@@ -3,6 +3,7 @@
 ghost use Rattle.std.specs.Prelude.{◌≡◌};
 ghost use Rattle.run_model.specs.Converters.{converters_of};
 ghost use Rattle.run_model.specs.Worlds.{to_open};
+ghost use Rattle.per_runtime.specs.Served.{call_at, on_disk, terms};
 ghost use Rattle.per_runtime.specs.application.Running.{IsRunning, stage_in};
 ghost use Rattle.per_runtime.specs.Handled.{IsHandled};
 ghost use Rattle.per_runtime.specs.Sorting.{asked_call};
@@ -24,10 +25,9 @@ pub(crate) fn answer<D: Disk>(
     asked: &Asked,
 ) -> Result<Reply, Stop>
     requires memory { IsRunning D.told (D.medium disk.old).image running.old }
-    ensures { IsHandled D.told (converters_of migrations.now) now (asked_call asked.now)
-        running.old
-        running.new
-        (disk.new ≡ disk.old) (D.medium disk.old) (D.medium disk.new) result }
+    ensures { IsHandled (terms D.told (converters_of migrations.now)) (call_at now (asked_call asked.now))
+        (on_disk running.old (D.medium disk.old))
+        (on_disk running.new (D.medium disk.new)) (disk.new ≡ disk.old) result }
 {
     if running.is_marked() {
         open_and_answer(running, disk, migrations, now, asked)
@@ -48,10 +48,9 @@ fn open_and_answer<D: Disk>(
 ) -> Result<Reply, Stop>
     requires memory { IsRunning D.told (D.medium disk.old).image running.old }
     requires marked { stage_in running.old.stage ≡ to_open }
-    ensures { IsHandled D.told (converters_of migrations.now) now (asked_call asked.now)
-        running.old
-        running.new
-        (disk.new ≡ disk.old) (D.medium disk.old) (D.medium disk.new) result }
+    ensures { IsHandled (terms D.told (converters_of migrations.now)) (call_at now (asked_call asked.now))
+        (on_disk running.old (D.medium disk.old))
+        (on_disk running.new (D.medium disk.new)) (disk.new ≡ disk.old) result }
 {
     applications_stand();
     running_is_application();

@@ -8,6 +8,7 @@ ghost use Rattle.run_model.specs.Converters.{converters_of};
 ghost use Rattle.run_model.specs.Runtimes.{IsDoubt, Stepped, Stopped, calls_none, runtime_at, world_of};
 ghost use Rattle.run_model.specs.Turns.{IsBlamed};
 ghost use Rattle.run_model.specs.Worlds.{Doubt};
+ghost use Rattle.per_runtime.specs.Served.{on_disk, terms};
 ghost use Rattle.per_runtime.specs.Commands.{CallsDevice, IsCommand};
 ghost use Rattle.per_runtime.specs.Memories.{IsRuntime, memory_of};
 ghost use Rattle.per_runtime.specs.Needs.{CommandMayStarve};
@@ -95,8 +96,9 @@ impl Runtime {
     ) -> Result<Reply, Stop>
         requires event { IsEvent event.now }
         requires memory { IsRuntime D.told (D.medium disk.old) self.old }
-        ensures { IsCommand D.told (converters_of migrations.now) event.now self.old self.new
-            (disk.new ≡ disk.old) (D.medium disk.old) (D.medium disk.new) result }
+        ensures { IsCommand (terms D.told (converters_of migrations.now)) event.now
+            (on_disk self.old (D.medium disk.old))
+            (on_disk self.new (D.medium disk.new)) (disk.new ≡ disk.old) result }
     {
         applications_stand();
         running_is_application();
@@ -119,9 +121,9 @@ impl Runtime {
     ) -> Result<Reply, Stop>
         requires app { app < 8 }
         requires memory { IsRuntime D.told (D.medium disk.old) self.old }
-        ensures { IsCommand D.told (converters_of migrations.now)
-            (Event.App app (asked_call asked.now)) self.old self.new
-            (disk.new ≡ disk.old) (D.medium disk.old) (D.medium disk.new) result }
+        ensures { IsCommand (terms D.told (converters_of migrations.now)) (Event.App app (asked_call asked.now))
+            (on_disk self.old (D.medium disk.old))
+            (on_disk self.new (D.medium disk.new)) (disk.new ≡ disk.old) result }
     {
         if self.in_doubt && self.apps[app].calls_device(disk, asked) {
             self.end_doubt(disk, migrations, app, asked)
@@ -144,9 +146,9 @@ impl Runtime {
         requires memory { IsRuntime D.told (D.medium disk.old) self.old }
         requires device { CallsDevice D.told (D.medium disk.old).image self.old app (asked_call asked.now) true }
         requires doubt { self.old.in_doubt ≡ true }
-        ensures { IsCommand D.told (converters_of migrations.now)
-            (Event.App app (asked_call asked.now)) self.old self.new
-            (disk.new ≡ disk.old) (D.medium disk.old) (D.medium disk.new) result }
+        ensures { IsCommand (terms D.told (converters_of migrations.now)) (Event.App app (asked_call asked.now))
+            (on_disk self.old (D.medium disk.old))
+            (on_disk self.new (D.medium disk.new)) (disk.new ≡ disk.old) result }
     {
         running_is_application();
         if disk.sync().is_err() {
@@ -168,9 +170,9 @@ impl Runtime {
         requires memory { IsRuntime D.told (D.medium disk.old) self.old }
         requires sure { self.old.in_doubt ≡ true → CallsDevice D.told (D.medium disk.old).image self.old app
             (asked_call asked.now) false }
-        ensures { IsCommand D.told (converters_of migrations.now)
-            (Event.App app (asked_call asked.now)) self.old self.new
-            (disk.new ≡ disk.old) (D.medium disk.old) (D.medium disk.new) result }
+        ensures { IsCommand (terms D.told (converters_of migrations.now)) (Event.App app (asked_call asked.now))
+            (on_disk self.old (D.medium disk.old))
+            (on_disk self.new (D.medium disk.new)) (disk.new ≡ disk.old) result }
     {
         applications_stand();
         running_is_application();

@@ -24,6 +24,7 @@ use Rattle.run_model.specs.Calls.{status_step}
 use Rattle.run_model.specs.Converters.{Converters}
 use Rattle.run_model.specs.Worlds.{Application, application_at}
 use Rattle.run_model.specs.Worlds as worlds
+use Rattle.per_runtime.specs.Served.{call_at, on_disk, terms}
 use Rattle.per_runtime.specs.declared.application.running.Running.{Running}
 use Rattle.per_runtime.specs.declared.application.running.Stage.{Stage}
 use Rattle.per_runtime.specs.declared.application.running.Stage.TheVariants.{AtRest}
@@ -54,9 +55,9 @@ module _ (told : Bool) (converters : Converters) (now : ℕ) (c : Call) (s : Run
   pub busy_promises : (e : PerError) → beside_update (worlds.update_in (stage_in s.stage)) c ≡ Some e
       → (reply : Reply)
       → reply ≡ reply_with (answer.Error e)
-      → Promises told converters now c s s Untouched m m (Ok reply)
+      → Promises (terms told converters) (call_at now c) (on_disk s m) (on_disk s m) Untouched (Ok reply)
   busy_promises e refused reply is_reply = subst (λ (x : Reply).
-      Promises told converters now c s s Untouched m m (Ok x)) (sym is_reply)
+      Promises (terms told converters) (call_at now c) (on_disk s m) (on_disk s m) Untouched (Ok x)) (sym is_reply)
       (idle_promises told converters now c s m lawful untouched Untouched same is s.stage
       (reply_with (answer.Error e)) is
       (λ tells. subst (λ (x : Option PerError). StepBeside converters
@@ -91,21 +92,23 @@ module _ (told : Bool) (converters : Converters) (now : ℕ) (s : Running) (m : 
     (lawful : IsLawful told m) (untouched : UntouchedAppLaw) (Untouched : Type 0) (same : Untouched)
     (is : IsRunning told m.image s) (opened : worlds.is_to_open (stage_in s.stage) ≡ false)
     (in_use : RootInUseLaw) where
-  status_has : (r : Application) → HasRow converters s.app now call.Status r (says_status r.disk.says, r)
+  status_has : (r : Application)
+      → HasRow converters (application_at s.app now r) call.Status (says_status r.disk.says, r)
   unfolding app_step
   status_has r = subst (λ (x : Option PerError). StepBeside converters (application_at s.app now r) call.Status x
       (says_status r.disk.says, r)) (sym (beside_goes (worlds.update_in r.stage) call.Status refl))
       (status_row r r.disk.says)
 
   pub status_promises : (reply : Reply) → reply ≡ says_status (root_says (stage_root s.stage))
-      → Promises told converters now call.Status s s Untouched m m (Ok reply)
+      → Promises (terms told converters) (call_at now call.Status) (on_disk s m) (on_disk s m) Untouched (Ok reply)
   status_promises reply is_reply =
       let says = root_says (stage_root s.stage) in
-      subst (λ (x : Reply). Promises told converters now call.Status s s Untouched m m (Ok x)) (sym is_reply)
+      subst (λ (x : Reply). Promises (terms told converters) (call_at now call.Status) (on_disk s m) (on_disk s m)
+      Untouched (Ok x)) (sym is_reply)
       (idle_promises told converters now call.Status s m lawful untouched Untouched same is s.stage
       (says_status says)
       is
-      (λ tells. subst (λ (x : Says). HasRow converters s.app now call.Status (application m.image s)
+      (λ tells. subst (λ (x : Says). HasRow converters (application_at s.app now (application m.image s)) call.Status
       (says_status x, application m.image s))
       (says_in_use in_use told m.image s.app (stage_root s.stage)
       (root_at_in told m.image s.app s.slots s.stage opened is.stage_at) tells)
@@ -115,7 +118,8 @@ module _ (told : Bool) (converters : Converters) (now : ℕ) (s : Running) (m : 
   -- ---- the abort
 
   abort_by : (staged : Option Staged) → staged_in s.stage ≡ staged → (after' : Running) (reply : Reply)
-      → Aborts staged s after' reply → Promises told converters now call.UpdateAbort s after' Untouched m m
+      → Aborts staged s after' reply
+      → Promises (terms told converters) (call_at now call.UpdateAbort) (on_disk s m) (on_disk after' m) Untouched
       (Ok reply)
   abort_by None none after' reply aborts = without_promises told converters now call.UpdateAbort s m lawful untouched
       Untouched same is opened none in_use
@@ -123,10 +127,11 @@ module _ (told : Bool) (converters : Converters) (now : ℕ) (s : Running) (m : 
   abort_by (Some t) some after' reply aborts =
       let stage_is = an_update s.stage t some in
       let at = staged_at told m.image s.app s.slots s.stage t stage_is is.stage_at in
-      subst (λ (x : Running). Promises told converters now call.UpdateAbort s x Untouched m m (Ok reply))
+      subst (λ (x : Running). Promises (terms told converters) (call_at now call.UpdateAbort) (on_disk s m)
+      (on_disk x m) Untouched (Ok reply))
       (sym aborts.0)
-      (subst (λ (x : Reply). Promises told converters now call.UpdateAbort s
-      (record s { stage = AtRest (staged_root t) }) Untouched m m (Ok x)) (sym aborts.1)
+      (subst (λ (x : Reply). Promises (terms told converters) (call_at now call.UpdateAbort) (on_disk s m)
+      (on_disk (record s { stage = AtRest (staged_root t) }) m) Untouched (Ok x)) (sym aborts.1)
       (idle_promises told converters now call.UpdateAbort s m lawful untouched Untouched same is
       (AtRest (staged_root t))
       (reply_of None)
@@ -138,14 +143,16 @@ module _ (told : Bool) (converters : Converters) (now : ℕ) (s : Running) (m : 
           open_on = open_by_none told m.image s.app (root_says (staged_root t)) s.slots at.1;
         };
       })
-      (λ tells. subst (λ (x : Running). HasRow converters s.app now call.UpdateAbort (application m.image x)
+      (λ tells. subst (λ (x : Running). HasRow converters (application_at s.app now (application m.image x))
+      call.UpdateAbort
       (reply_of None, application m.image (record s { stage = AtRest (staged_root t) }))) (update_back s t stage_is)
       (abort_row told converters now s t m m Untouched at.0 is.below at.1 in_use tells
       (reply_of None, application m.image (record s { stage = AtRest (staged_root t) })) refl))
       (λ e. cc) tt))
 
   pub abort_promises : (after' : Running) (reply : Reply) → Aborts (staged_in s.stage) s after' reply
-      → Promises told converters now call.UpdateAbort s after' Untouched m m (Ok reply)
+      → Promises (terms told converters) (call_at now call.UpdateAbort) (on_disk s m) (on_disk after' m) Untouched
+      (Ok reply)
   abort_promises after' reply aborts = abort_by (staged_in s.stage) refl after' reply aborts
 
 -- ---- at rest

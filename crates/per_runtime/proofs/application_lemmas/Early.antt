@@ -24,6 +24,7 @@ use Rattle.run_model.specs.Calls.{first_open, least_open}
 use Rattle.run_model.specs.Converters.{Converters}
 use Rattle.run_model.specs.Worlds.{Application, application_at}
 use Rattle.run_model.specs.Worlds as worlds
+use Rattle.per_runtime.specs.Served.{call_at, on_disk, terms}
 use Rattle.per_runtime.specs.storages.Needs.{CallNeedsMemory}
 use Rattle.per_runtime.specs.storages.Slots.{IsResting, resting_with, sessions_in}
 use Rattle.per_runtime.specs.declared.application.running.Running.{Running}
@@ -89,12 +90,13 @@ module _ (converters : Converters) (app now : ℕ) (r : Application) (rests : r.
   beside_none c = ap (λ (s : worlds.Stage). beside_update (worlds.update_in s) c) rests
 
   as_row : (c : Call) → StepBeside converters (application_at app now r) c None (reply_of (Some e), r)
-      → HasRow converters app now c r (reply_of (Some e), r)
+      → HasRow converters (application_at app now r) c (reply_of (Some e), r)
   as_row c step = subst
       (λ (x : Option PerError). StepBeside converters (application_at app now r) c x (reply_of (Some e), r))
       (sym (beside_none c)) step
 
-  pub back_row : no_way_back r.disk.says ≡ Some e → HasRow converters app now call.Rollback r (reply_of (Some e), r)
+  pub back_row : no_way_back r.disk.says ≡ Some e
+      → HasRow converters (application_at app now r) call.Rollback (reply_of (Some e), r)
   unfolding app_step
   back_row is = as_row call.Rollback (sym (ap (λ (row : Result App PerError). concluded r (done_with r row))
       (back_refused (least_open r) r.disk.says r.disk.lacking r.disk.states e is)))
@@ -107,11 +109,11 @@ module _ (converters : Converters) (app now : ℕ) (r : Application) (rests : r.
       (sym (offer_refused (least_open r) text r.disk.says r.disk.lacking r.disk.states e is)) refl
 
   pub update_row : (text : List ℕ) → no_update_over r.disk.says ≡ Some e
-      → HasRow converters app now (call.Update text) r (reply_of (Some e), r)
+      → HasRow converters (application_at app now r) (call.Update text) (reply_of (Some e), r)
   update_row text is = as_row (call.Update text) (Err e, begins text is, refl)
 
   pub begin_row : (text : List ℕ) → no_update_over r.disk.says ≡ Some e
-      → HasRow converters app now (call.UpdateBegin text) r (reply_of (Some e), r)
+      → HasRow converters (application_at app now r) (call.UpdateBegin text) (reply_of (Some e), r)
   begin_row text is = as_row (call.UpdateBegin text) (Err e, begins text is, refl)
 
 -- ---- the call
@@ -122,10 +124,11 @@ module _ (told : Bool) (converters : Converters) (now : ℕ) (c : Call) (s : Run
     (refusal : Says → Option PerError) (e : PerError) (plain : IsPlain e)
     (refused : refusal (root_says (stage_root s.stage)) ≡ Some e)
     (row : (r : Application) → r.stage ≡ worlds.at_rest → refusal r.disk.says ≡ Some e
-    → HasRow converters s.app now c r (reply_of (Some e), r)) where
+    → HasRow converters (application_at s.app now r) c (reply_of (Some e), r)) where
   pub early_promises : (reply : Reply) → reply ≡ reply_with (answer.Error e)
-      → Promises told converters now c s s Untouched m m (Ok reply)
-  early_promises reply is_reply = subst (λ (x : Reply). Promises told converters now c s s Untouched m m (Ok x))
+      → Promises (terms told converters) (call_at now c) (on_disk s m) (on_disk s m) Untouched (Ok reply)
+  early_promises reply is_reply = subst
+      (λ (x : Reply). Promises (terms told converters) (call_at now c) (on_disk s m) (on_disk s m) Untouched (Ok x))
       (sym is_reply)
       (idle_promises told converters now c s m lawful untouched Untouched same is s.stage (reply_of (Some e)) is
       (λ tells. row (application m.image s) rest

@@ -35,6 +35,7 @@ use Rattle.run_model.specs.WriteLaws.{call_unwritten}
 use Rattle.run_model.specs.Writes.{IsCallWithin}
 use Rattle.run_model.specs.Worlds.{Application, application_at}
 use Rattle.run_model.specs.Worlds as worlds
+use Rattle.per_runtime.specs.Served.{call_at, on_disk, terms}
 use Rattle.per_runtime.specs.declared.storages.slots.OpenSlots.{OpenSlots}
 use Rattle.per_runtime.specs.storages.Slots.{AreOpenOn, IsResting, resting_with, sessions_in}
 use Rattle.deploy_laws.specs.Stands.{IsLater}
@@ -148,7 +149,8 @@ module _ (told : Bool) (converters : Converters) (now : ℕ) (c : Call) (b : Run
     not_written None is none = absurd (true≢false (sym none))
     not_written (Some e) is some = unwritten (m.unchanged (some_refused e is)).0
 
-    done_promises : Promises told converters now c before (record b { stage = AtRest o.root }) Untouched old new
+    done_promises : Promises (terms told converters) (call_at now c) (on_disk before old)
+        (on_disk (record b { stage = AtRest o.root }) new) Untouched
         (Ok (reply_of o.refused))
     done_promises = record {
       app = refl;
@@ -187,7 +189,8 @@ module _ (told : Bool) (converters : Converters) (now : ℕ) (c : Call) (b : Run
       (none : NoneOpen after'.slots)
     where
       device_promises : Made told row Due b.app root Untouched old new (Err stop.Device)
-          → Promises told converters now c before after' Untouched old new (Err stop.Device)
+          → Promises (terms told converters) (call_at now c) (on_disk before old) (on_disk after' new) Untouched
+          (Err stop.Device)
       device_promises m = record {
         app = app;
         memory = λ fed. marked_running told new.image b after' resting.below app stage none;
@@ -226,7 +229,8 @@ module _ (told : Bool) (converters : Converters) (now : ℕ) (c : Call) (b : Run
           (sym (m.due e (word.alike r.disk (root_app root []) e (sym (says_same tells)) is) due)))
 
       memory_promises : Made told row Due b.app root Untouched old new (Err stop.OutOfMemory)
-          → Promises told converters now c before after' Untouched old new (Err stop.OutOfMemory)
+          → Promises (terms told converters) (call_at now c) (on_disk before old) (on_disk after' new) Untouched
+          (Err stop.OutOfMemory)
       memory_promises m = record {
         app = app;
         memory = λ fed. absurd (fed refl);
@@ -255,7 +259,8 @@ module _ (told : Bool) (converters : Converters) (now : ℕ) (c : Call) (b : Run
       }
 
       stopped_promises : (e : Stop) → Made told row Due b.app root Untouched old new (Err e)
-          → Promises told converters now c before after' Untouched old new (Err e)
+          → Promises (terms told converters) (call_at now c) (on_disk before old) (on_disk after' new) Untouched
+          (Err e)
       stopped_promises stop.Device m = device_promises m
       stopped_promises stop.OutOfMemory m = memory_promises m
 
@@ -263,13 +268,15 @@ module _ (told : Bool) (converters : Converters) (now : ℕ) (c : Call) (b : Run
       → IfOk made (λ o. o.refused ≡ None → AreOpenOn told new.image b.app (root_says o.root) b.slots)
       → (after' : Running) (result : Result Reply Stop)
       → ConcludesCall made (record b { stage = ToOpen }) after' result
-      → Promises told converters now c before after' Untouched old new result
+      → Promises (terms told converters) (call_at now c) (on_disk before old) (on_disk after' new) Untouched result
   rowed_promises (Ok o) m kept after' result s = subst (λ (x : Running).
-      Promises told converters now c before x Untouched old new result) (sym s.0)
-      (subst (λ (x : Result Reply Stop). Promises told converters now c before (record b { stage = AtRest o.root })
-      Untouched old new x) (sym s.1) (done_promises o m kept))
+      Promises (terms told converters) (call_at now c) (on_disk before old) (on_disk x new) Untouched result)
+      (sym s.0)
+      (subst (λ (x : Result Reply Stop). Promises (terms told converters) (call_at now c) (on_disk before old)
+      (on_disk (record b { stage = AtRest o.root }) new) Untouched x) (sym s.1) (done_promises o m kept))
   rowed_promises (Err e) m kept after' result s = subst
-      (λ (x : Result Reply Stop). Promises told converters now c before after' Untouched old new x) (sym s.3)
+      (λ (x : Result Reply Stop). Promises (terms told converters) (call_at now c) (on_disk before old)
+      (on_disk after' new) Untouched x) (sym s.3)
       (stopped_promises after' s.0 s.1 s.2 e m)
 
 -- ---- the same of what is in memory
@@ -299,9 +306,10 @@ module _ (told : Bool) (converters : Converters) (now : ℕ) (c : Call) (s taken
       → (made : Result Outcome Stop) → Made told row Due s.app root Untouched old new made
       → IfOk made (λ o. o.refused ≡ None → AreOpenOn told new.image s.app (root_says o.root) s.slots)
       → (after' : Running) (result : Result Reply Stop) → ConcludesCall made taken after' result
-      → Promises told converters now c s after' Untouched old new result
+      → Promises (terms told converters) (call_at now c) (on_disk s old) (on_disk after' new) Untouched result
   word_promises word within made m kept after' result settles =
-      subst (λ (x : Running). Promises told converters now c x after' Untouched old new result)
+      subst (λ (x : Running). Promises (terms told converters) (call_at now c) (on_disk x old) (on_disk after' new)
+      Untouched result)
       (stage_back s root rest root_is)
       (rowed_promises told converters now c s root old new Untouched unwritten
       (resting_in told old.image s root is rest root_is) in_use row Due word within made m kept after' result
@@ -325,10 +333,11 @@ module _ (told : Bool) (converters : Converters) (now : ℕ) (c : Call) (s : Run
     (lawful : IsLawful told m) (untouched : UntouchedAppLaw)
     (Untouched : Type 0) (same : Untouched) (is : IsRunning told m.image s) where
   pub idle_promises : (stage : Stage) (reply : Reply) → IsRunning told m.image (record s { stage = stage })
-      → (IsTrue told → HasRow converters s.app now c (application m.image s)
+      → (IsTrue told → HasRow converters (application_at s.app now (application m.image s)) c
       (reply, application m.image (record s { stage = stage })))
       → reply.answer ≢ answer.Error error.PhysicalStorageFailure → HasText reply.answer
-      → Promises told converters now c s (record s { stage = stage }) Untouched m m (Ok reply)
+      → Promises (terms told converters) (call_at now c) (on_disk s m) (on_disk (record s { stage = stage }) m)
+      Untouched (Ok reply)
   idle_promises stage reply is_after row sound text = record {
     app = refl;
     memory = λ fed. is_after;
@@ -359,9 +368,11 @@ module _ (told : Bool) (converters : Converters) (now : ℕ) (c : Call) (s : Run
   -- memory ran out before anything was done
   pub starved_promises : (IsTrue told → MayStarve s.app now c (application m.image s)) → (after' : Running)
       → after'.app ≡ s.app → (result : Result Reply Stop)
-      → result ≡ Err stop.OutOfMemory → Promises told converters now c s after' Untouched m m result
+      → result ≡ Err stop.OutOfMemory
+      → Promises (terms told converters) (call_at now c) (on_disk s m) (on_disk after' m) Untouched result
   starved_promises needs after' app result failed = subst (λ (x : Result Reply Stop).
-      Promises told converters now c s after' Untouched m m x) (sym failed) (record {
+      Promises (terms told converters) (call_at now c) (on_disk s m) (on_disk after' m) Untouched x) (sym failed)
+      (record {
         app = app;
         memory = λ fed. absurd (fed refl);
         answered = λ tells. tt;

@@ -200,6 +200,6 @@ module _ (storage : StorageLaterLaw) where
     beside_on converters app now r c None o step = call_on converters app now r c o step
 
     pub leads_on : (converters : Converters) (app now : ℕ) (c : Call) (r : Application) (o : Outcome)
-        → HasRow converters app now c r o → IsLater r.disk o.1.disk
+        → HasRow converters (application_at app now r) c o → IsLater r.disk o.1.disk
     leads_on converters app now c r o row = beside_on converters app now r c (beside_update (update_in r.stage) c)
         o row

@@ -21,7 +21,7 @@ use Rattle.run_model.specs.Calls.{answered, done_with, concluded}
 use Rattle.run_model.specs.Converters.{Converters}
 use Rattle.run_model.specs.Runtimes.{is_durable, only_plans}
 use Rattle.run_model.specs.Steps.{device_storage, reaches_device, uses_device}
-use Rattle.run_model.specs.Worlds.{Application}
+use Rattle.run_model.specs.Worlds.{Application, application_at}
 use Rattle.per_runtime.specs.storages.Answers.{CallsTo}
 use Rattle.per_runtime.specs.storages.Needs.{CallNeedsMemory}
 use Rattle.per_runtime.specs.application.Answers.{HasRow, MayLead}
@@ -59,7 +59,8 @@ module _ (row : App → Result App PerError) (alike : RefusesAlike row) where
   settled_by r a' a (Some e) (Err f) (Ok y) same is_x is_y answers is_after =
       absurd (let g = sym is_y ∙ alike a r.disk f same is_x in cc)
   settled_by r a' a (Some e) (Err f) (Err g) same is_x is_y answers is_after =
-      let refusal : g ≡ e = (let both = sym is_y ∙ alike a r.disk f same is_x in let is : g ≡ f = cc in is ∙ answers) in
+      let refusal : g ≡ e = (let both = sym is_y ∙ alike a r.disk f same is_x in let is : g ≡ f = cc in is ∙ answers)
+      in
       ap (λ (d : App). (reply_of (Some e), record r { disk = d })) is_after
       ∙ ap (λ (x : PerError). answered (answer.Error x) r) (sym refusal)
 
@@ -79,7 +80,7 @@ pub record IsWord (told : Bool) (converters : Converters) (app now : ℕ) (c : C
   pub plain : (a : App) → IfErr (row a) IsPlain
   pub later : (a b : App) → row a ≡ Ok b → IsLater a b
   pub has_row : IsTrue told → (o : calls.Outcome) → o ≡ concluded r (done_with r (row r.disk))
-      → HasRow converters app now c r o
+      → HasRow converters (application_at app now r) c o
   pub reaches : IsTrue told → IsOk (row r.disk) → IsTrue (reaches_device app r now c)
   pub wants : IsTrue told → (e : PerError) → row r.disk ≡ Err e → (Due e → ⊥)
       → CallNeedsMemory app now c r ⊎ ReadsManifest c r
@@ -99,7 +100,7 @@ module _ (told : Bool) (converters : Converters) (app now : ℕ) (c : Call) (r :
   row_later = later_by (row r.disk) refl
 
   leads_by : IsTrue told → (y : Result App PerError) → row r.disk ≡ y
-      → MayLead converters app now c r (after r.disk y)
+      → MayLead converters (application_at app now r) c (after r.disk y)
   leads_by tells (Ok b) is = inr (
     answered answer.Done (record r { disk = b }),
     word.has_row tells (answered answer.Done (record r { disk = b }))
@@ -108,7 +109,7 @@ module _ (told : Bool) (converters : Converters) (app now : ℕ) (c : Call) (r :
   )
   leads_by tells (Err e) is = inl refl
 
-  pub row_leads : IsTrue told → MayLead converters app now c r (after r.disk (row r.disk))
+  pub row_leads : IsTrue told → MayLead converters (application_at app now r) c (after r.disk (row r.disk))
   row_leads tells = leads_by tells (row r.disk) refl
 
 -- ---- how a call of the deployment was done
@@ -117,7 +118,8 @@ pub record Made (told : Bool) (row : App → Result App PerError) (Due : PerErro
     (Untouched : Type 0) (old new : Medium) (made : Result Outcome Stop) : Type 0 where
   pub root_at : IfOk made (λ o. RootAt told new.image app o.root)
   pub refused : IfOk made (λ o. rows.AnswersRow o.refused (row (root_app root [])))
-  pub leads : IsTrue told → OnOk made (app_at new.image app ≡ after (app_at old.image app) (row (app_at old.image app)))
+  pub leads : IsTrue told
+      → OnOk made (app_at new.image app ≡ after (app_at old.image app) (row (app_at old.image app)))
   pub clean : IsTrue told → IfOk made (λ o. IsCleanApp app old.image → IsCleanApp app new.image)
   pub quiet : Quiet old → OnOk made (Quiet new)
   pub unchanged : IfOk made (λ o. (o.refused ≡ None → ⊥) → Untouched × (o.root ≡ root))

@@ -44,6 +44,7 @@ use Rattle.run_model.specs.Turns.{bytes_now}
 use Rattle.run_model.specs.Worlds.{Application, application_at}
 use Rattle.run_model.specs.Worlds as worlds
 use Rattle.run_model.specs.Writes.{IsCallWithin}
+use Rattle.per_runtime.specs.Served.{call_at, on_disk, terms}
 use Rattle.per_runtime.specs.storages.Answers.{CallsTo}
 use Rattle.per_runtime.specs.declared.storages.slots.OpenSlots.{OpenSlots}
 use Rattle.per_runtime.specs.storages.Slots.{sessions_in}
@@ -155,18 +156,20 @@ module _ (told : Bool) (converters : Converters) (now : ℕ) (c : Call) (s : Run
     (lawful : IsLawful told m) (untouched : UntouchedAppLaw) (Untouched : Type 0) (same : Untouched)
     (is : IsRunning told m.image s) (opened : worlds.is_to_open (stage_in s.stage) ≡ false)
     (none : staged_in s.stage ≡ None) (in_use : RootInUseLaw)
-    (row : (r : Application) → r.stage ≡ worlds.at_rest → HasRow converters s.app now c r
+    (row : (r : Application) → r.stage ≡ worlds.at_rest → HasRow converters (application_at s.app now r) c
     (reply_of (Some (without_update r.disk.says)), r)) where
   pub without_promises : (after' : Running) → after' ≡ s → (reply : Reply)
       → reply ≡ reply_of (Some (without_update (root_says (stage_root s.stage))))
-      → Promises told converters now c s after' Untouched m m (Ok reply)
+      → Promises (terms told converters) (call_at now c) (on_disk s m) (on_disk after' m) Untouched (Ok reply)
   without_promises after' is_after reply is_reply =
       let says = root_says (stage_root s.stage) in
-      subst (λ (x : Running). Promises told converters now c s x Untouched m m (Ok reply)) (sym is_after)
-      (subst (λ (x : Reply). Promises told converters now c s s Untouched m m (Ok x)) (sym is_reply)
+      subst (λ (x : Running). Promises (terms told converters) (call_at now c) (on_disk s m) (on_disk x m) Untouched
+      (Ok reply)) (sym is_after)
+      (subst (λ (x : Reply). Promises (terms told converters) (call_at now c) (on_disk s m) (on_disk s m) Untouched
+      (Ok x)) (sym is_reply)
       (idle_promises told converters now c s m lawful untouched Untouched same is s.stage
       (reply_of (Some (without_update says))) is
-      (λ tells. subst (λ (x : Says). HasRow converters s.app now c (application m.image s)
+      (λ tells. subst (λ (x : Says). HasRow converters (application_at s.app now (application m.image s)) c
       (reply_of (Some (without_update x)), application m.image s))
       (says_in_use in_use told m.image s.app (stage_root s.stage)
       (root_at_in told m.image s.app s.slots s.stage opened is.stage_at) tells)
@@ -211,7 +214,7 @@ module _ (converters : Converters) (app now : ℕ) (r : Application) (rests : r.
     beside_none : (c : Call) → beside_update (worlds.update_in r.stage) c ≡ None
     beside_none c = ap (λ (p : Option InProgress). beside_update p c) none_in
 
-    pub next_refused_row : HasRow converters app now call.UpdateNext r
+    pub next_refused_row : HasRow converters (application_at app now r) call.UpdateNext
         (reply_of (Some (without_update r.disk.says)), r)
     unfolding app_step
     next_refused_row = subst
@@ -219,7 +222,7 @@ module _ (converters : Converters) (app now : ℕ) (r : Application) (rests : r.
         (reply_of (Some (without_update r.disk.says)), r)) (sym (beside_none call.UpdateNext))
         (next_refused r none_in)
 
-    pub commit_refused_row : HasRow converters app now call.UpdateCommit r
+    pub commit_refused_row : HasRow converters (application_at app now r) call.UpdateCommit
         (reply_of (Some (without_update r.disk.says)), r)
     unfolding app_step
     commit_refused_row = subst
@@ -227,7 +230,7 @@ module _ (converters : Converters) (app now : ℕ) (r : Application) (rests : r.
         (reply_of (Some (without_update r.disk.says)), r)) (sym (beside_none call.UpdateCommit))
         (commit_refused r none_in)
 
-    pub abort_refused_row : HasRow converters app now call.UpdateAbort r
+    pub abort_refused_row : HasRow converters (application_at app now r) call.UpdateAbort
         (reply_of (Some (without_update r.disk.says)), r)
     unfolding app_step
     abort_refused_row = subst
@@ -275,7 +278,7 @@ module _ (told : Bool) (converters : Converters) (now : ℕ) (b : Running) (s : 
   next_row : IsTrue told → (o : calls.Outcome) → o
       ≡ answered (answer.Number (remaining (one_more (staged_progress s))))
       (record r { stage = worlds.updating (one_more (staged_progress s)) })
-      → HasRow converters b.app now call.UpdateNext r o
+      → HasRow converters (application_at b.app now r) call.UpdateNext o
   unfolding app_step
   next_row tells o is_o = is_o ∙ sym (ap (λ (row : Result calls.Outcome PerError). concluded r row) (next_is tells))
 
@@ -285,7 +288,7 @@ module _ (told : Bool) (converters : Converters) (now : ℕ) (b : Running) (s : 
 
   commit_row : IsTrue told → (o : calls.Outcome) → o ≡ answered answer.Done
       (record r { disk = updated_app (staged_progress s) r.disk; stage = worlds.at_rest })
-      → HasRow converters b.app now call.UpdateCommit r o
+      → HasRow converters (application_at b.app now r) call.UpdateCommit o
   unfolding app_step
   commit_row tells o is_o = is_o ∙ sym
       (ap (λ (row : Result calls.Outcome PerError). concluded r row) (commit_is tells))
@@ -295,12 +298,12 @@ module _ (told : Bool) (converters : Converters) (now : ℕ) (b : Running) (s : 
   commit_reaches tells = ap (λ (row : Result calls.Outcome PerError). is_ok row) (commit_is tells)
 
   pub abort_row : IsTrue told → (o : calls.Outcome) → o ≡ answered answer.Done (record r { stage = worlds.at_rest })
-      → HasRow converters b.app now call.UpdateAbort r o
+      → HasRow converters (application_at b.app now r) call.UpdateAbort o
   unfolding app_step
   abort_row tells o is_o = is_o ∙ sym (ap (λ (row : Result calls.Outcome PerError). concluded r row) (abort_is tells))
 
   -- an install is refused
-  pub install_row : (text : List ℕ) → IsTrue told → HasRow converters b.app now (call.Install text) r
+  pub install_row : (text : List ℕ) → IsTrue told → HasRow converters (application_at b.app now r) (call.Install text)
       (reply_of (Some error.AlreadyInstalled), r)
   unfolding app_step
   install_row text tells = sym (ap (λ (row : Result App PerError). concluded r (done_with r row))
@@ -313,7 +316,8 @@ module _ (told : Bool) (converters : Converters) (now : ℕ) (b : Running) (s : 
   -- a step that failed: it leads to this application, or nowhere
   module _ (c : Call) (after' : Running) (app : after'.app ≡ b.app) (stage : after'.stage ≡ ToOpen)
       (same_slots : NoneOpen after'.slots) (next : App)
-      (leads : IsTrue told → MayLead converters b.app now c r next) (later : IsTrue told → IsLater r.disk next)
+      (leads : IsTrue told → MayLead converters (application_at b.app now r) c next)
+      (later : IsTrue told → IsLater r.disk next)
       (calls : IsTrue told → CallsTo b.app next old new)
       (reaches : IsTrue told → IsTrue (reaches_device b.app r now c)) (no_storage : device_storage c ≡ None)
       (not_durable : is_durable c ≡ false) (no_plan : only_plans c ≡ false) (uses : uses_device r.disk c ≡ true)
@@ -322,7 +326,8 @@ module _ (told : Bool) (converters : Converters) (now : ℕ) (b : Running) (s : 
     where
       pub failed_step : (e : Stop) → (e ≡ stop.Device → Rose old.faults new.faults)
           → (e ≡ stop.OutOfMemory → new.faults ≡ old.faults)
-          → Promises told converters now c before after' Untouched old new (Err e)
+          → Promises (terms told converters) (call_at now c) (on_disk before old) (on_disk after' new) Untouched
+          (Err e)
       failed_step stop.Device cause fed = record {
         app = app;
         memory = λ fed. marked_running told new.image b after' below app stage same_slots;
@@ -380,7 +385,7 @@ module _ (told : Bool) (converters : Converters) (now : ℕ) (b : Running) (s : 
 
   -- one that ended well: its reply is no refusal
   module _ (c : Call) (stage : Stage) (reply : Reply) (row : IsTrue told
-      → HasRow converters b.app now c r (
+      → HasRow converters (application_at b.app now r) c (
         reply,
         record {
           disk = app_at new.image b.app;
@@ -399,7 +404,8 @@ module _ (told : Bool) (converters : Converters) (now : ℕ) (b : Running) (s : 
       (uses : uses_device r.disk c ≡ true) (passes : new.faults ≡ old.faults) (time : Elapses old new)
       (within : IsTrue told → IsCallWithin converters (application_at b.app now r) c (bytes_now old) (bytes_now new))
     where
-      pub done_step : Promises told converters now c before (record b { stage = stage }) Untouched old new (Ok reply)
+      pub done_step : Promises (terms told converters) (call_at now c) (on_disk before old)
+          (on_disk (record b { stage = stage }) new) Untouched (Ok reply)
       done_step = record {
         app = refl;
         memory = λ fed. record { below = below; stage_at = is_after };
@@ -442,7 +448,8 @@ module _ (told : Bool) (converters : Converters) (now : ℕ) (b : Running) (s : 
       → (IsTrue told → CallsTo b.app r.disk old new) → Elapses old new
       → (IsTrue told → IsCallWithin converters (application_at b.app now r) call.UpdateNext (bytes_now old)
       (bytes_now new))
-      → Promises told converters now call.UpdateNext before after' Untouched old new (Err e)
+      → Promises (terms told converters) (call_at now call.UpdateNext) (on_disk before old) (on_disk after' new)
+      Untouched (Err e)
   next_failed e after' is_after cause fed calls time within = failed_step call.UpdateNext after'
       (ap (λ (x : Running). x.app) is_after) (ap (λ (x : Running). x.stage) is_after)
       (subst (λ (x : Running). NoneOpen x.slots) (sym is_after) none) r.disk (λ tells. inl refl)
@@ -456,7 +463,8 @@ module _ (told : Bool) (converters : Converters) (now : ℕ) (b : Running) (s : 
       → IsCleanApp b.app new.image) → (Quiet old → Quiet new) → new.faults ≡ old.faults → Elapses old new
       → (IsTrue told → IsCallWithin converters (application_at b.app now r) call.UpdateNext (bytes_now old)
       (bytes_now new))
-      → Promises told converters now call.UpdateNext before (record b { stage = Updating t }) Untouched old new
+      → Promises (terms told converters) (call_at now call.UpdateNext) (on_disk before old)
+      (on_disk (record b { stage = Updating t }) new) Untouched
       (Ok (reply_with (answer.Number count)))
   next_done t count progress counts at same calls clean quiet passes time within =
       done_step call.UpdateNext (Updating t) (reply_with (answer.Number count))
@@ -506,7 +514,8 @@ module _ (told : Bool) (converters : Converters) (now : ℕ) (b : Running) (s : 
         → (IsTrue told → CallsTo b.app next old new) → Elapses old new
         → (IsTrue told → IsCallWithin converters (application_at b.app now r) call.UpdateCommit (bytes_now old)
         (bytes_now new))
-        → Promises told converters now call.UpdateCommit before after' Untouched old new (Err e)
+        → Promises (terms told converters) (call_at now call.UpdateCommit) (on_disk before old) (on_disk after' new)
+        Untouched (Err e)
     commit_failed e after' is_after cause fed calls time within = failed_step call.UpdateCommit after'
         (ap (λ (x : Running). x.app) is_after) (ap (λ (x : Running). x.stage) is_after)
         (subst (λ (x : Running). NoneOpen x.slots) (sym is_after) none) next
@@ -524,7 +533,8 @@ module _ (told : Bool) (converters : Converters) (now : ℕ) (b : Running) (s : 
         → new.faults ≡ old.faults → Elapses old new
         → (IsTrue told → IsCallWithin converters (application_at b.app now r) call.UpdateCommit (bytes_now old)
         (bytes_now new))
-        → Promises told converters now call.UpdateCommit before (record b { stage = AtRest root }) Untouched old new
+        → Promises (terms told converters) (call_at now call.UpdateCommit) (on_disk before old)
+        (on_disk (record b { stage = AtRest root }) new) Untouched
         (Ok (reply_with answer.Done))
     commit_done root at is_next calls clean quiet passes time within =
         done_step call.UpdateCommit (AtRest root) (reply_with answer.Done)
@@ -548,14 +558,17 @@ pub install_refused : (told : Bool) (converters : Converters) (now : ℕ) (text 
     (m : Medium) → IsLawful told m → UntouchedAppLaw → (Untouched : Type 0) → Untouched
     → IsRunning told m.image b → RootInUseLaw → (s : Staged) → b.stage ≡ Updating s → (reply : Reply)
     → reply ≡ reply_with (answer.Error error.AlreadyInstalled)
-    → Promises told converters now (call.Install text) b b Untouched m m (Ok reply)
+    → Promises (terms told converters) (call_at now (call.Install text)) (on_disk b m) (on_disk b m) Untouched
+    (Ok reply)
 install_refused told converters now text b m lawful untouched Untouched same is in_use s stage_is reply is_reply =
     let at = staged_at told m.image b.app b.slots b.stage s stage_is is.stage_at in
     let back = update_back b s stage_is in
-    subst (λ (x : Reply). Promises told converters now (call.Install text) b b Untouched m m (Ok x)) (sym is_reply)
+    subst (λ (x : Reply). Promises (terms told converters) (call_at now (call.Install text)) (on_disk b m)
+    (on_disk b m) Untouched (Ok x)) (sym is_reply)
     (idle_promises told converters now (call.Install text) b m lawful untouched Untouched same is b.stage
     (reply_of (Some error.AlreadyInstalled)) is
-    (λ tells. subst (λ (x : Running). HasRow converters b.app now (call.Install text) (application m.image x)
+    (λ tells. subst (λ (x : Running). HasRow converters (application_at b.app now (application m.image x))
+    (call.Install text)
     (reply_of (Some error.AlreadyInstalled), application m.image x)) back
     (install_row told converters now b s m m Untouched at.0 is.below at.1 in_use text tells))
     (λ e. cc) refl)

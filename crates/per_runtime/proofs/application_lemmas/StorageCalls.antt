@@ -17,10 +17,11 @@ use Rattle.run_model.specs.Turns.{bytes_now}
 use Rattle.run_model.specs.WriteLaws.{call_named, call_unwritten}
 use Rattle.run_model.specs.Writes.{IsCallWithin}
 use Rattle.run_model.specs.Worlds.{Application, application_at}
+use Rattle.per_runtime.specs.Served.{call_at, on_disk, terms}
 use Rattle.per_runtime.specs.declared.storages.slots.OpenSlots.{OpenSlots}
 use Rattle.per_runtime.specs.storages.Answers.{is_on_storage}
 use Rattle.per_runtime.specs.storages.Answers as stored
-use Rattle.per_runtime.specs.storages.Handled.{IsStorageCallHandled}
+use Rattle.per_runtime.specs.storages.Handled.{IsStorageCallHandled, resting_at}
 use Rattle.per_runtime.specs.storages.Slots.{resting_with}
 use Rattle.per_runtime.specs.declared.application.running.Running.{Running}
 use Rattle.per_runtime.specs.declared.application.running.Stage.TheVariants.{AtRest}
@@ -71,33 +72,37 @@ on_each P Q (Err e) each is = tt
 
 -- every row leads on
 abbrev pub LeadsOn : Converters → Type 0
-LeadsOn converters = (app now : ℕ) (c : Call) (r : Application) (o : Outcome) → HasRow converters app now c r o
+LeadsOn converters = (app now : ℕ) (c : Call) (r : Application) (o : Outcome)
+    → HasRow converters (application_at app now r) c o
     → IsLater r.disk o.1.disk
 
 module _ (told : Bool) (converters : Converters) (now : ℕ) (c : Call) (b : Running) (root : Root)
     (slots : OpenSlots) (Untouched : Type 0) (old new : Medium) (result : Result Reply Stop)
     (unwritten : Untouched → IsUnwritten old new) (on : IsTrue (is_on_storage c)) (leads_on : LeadsOn converters)
-    (s : IsStorageCallHandled told b.app now root c b.slots slots old new Untouched result) where
+    (s : IsStorageCallHandled (resting_at told b.app now root) c (on_disk b.slots old) (on_disk slots new) Untouched
+    result) where
   abbrev r : Application
   r = resting_with old.image b.app b.slots
 
   abbrev o : Outcome
   o = concluded r (app_step b.app r now c)
 
-  has_row : (x : Outcome) → x ≡ o → HasRow converters b.app now c r x
+  has_row : (x : Outcome) → x ≡ o → HasRow converters (application_at b.app now r) c x
   has_row x is = call_step converters b.app now r c x on is
 
-  leads : (next : App) → stored.StorageCallMayLead b.app now c r next → MayLead converters b.app now c r next
+  leads : (next : App) → stored.StorageCallMayLead (application_at b.app now r) c next
+      → MayLead converters (application_at b.app now r) c next
   leads next (inl same) = inl same
   leads next (inr is) = inr (o, has_row o refl, is)
 
-  later : (next : App) → stored.StorageCallMayLead b.app now c r next → IsLater r.disk next
+  later : (next : App) → stored.StorageCallMayLead (application_at b.app now r) c next → IsLater r.disk next
   later next (inl same) = subst (λ (a : App). IsLater r.disk a) (sym same) (still r.disk)
   later next (inr is) = subst (λ (a : App). IsLater r.disk a) (sym is) (leads_on b.app now c r o (has_row o refl))
 
-  answers_it : (reply : Reply) → stored.IsStorageCallAnswered b.app now c r
-      (resting_with new.image b.app slots) reply old new
-      → IsAnswered converters b.app now c r (resting_with new.image b.app slots) reply old new
+  answers_it : (reply : Reply)
+      → stored.IsStorageCallAnswered (application_at b.app now r) c (reply, (resting_with new.image b.app slots)) old
+      new
+      → IsAnswered converters (application_at b.app now r) c (reply, (resting_with new.image b.app slots)) old new
   answers_it reply is = record {
     row = has_row (reply, resting_with new.image b.app slots) is.row;
     later = leads_on b.app now c r (reply, resting_with new.image b.app slots)
@@ -113,8 +118,9 @@ module _ (told : Bool) (converters : Converters) (now : ℕ) (c : Call) (b : Run
   within_by None is tells = let same = unwritten (s.idle tells (stays_off (app_at old.image b.app) c on is)) in
       call_unwritten converters b.app now r c (bytes_now old) (bytes_now new) same.0 same.1
 
-  pub stored_promises : Promises told converters now c (record b { stage = AtRest root })
-      (record b { stage = AtRest root; slots = slots }) Untouched old new result
+  pub stored_promises : Promises (terms told converters) (call_at now c)
+      (on_disk (record b { stage = AtRest root }) old)
+      (on_disk (record b { stage = AtRest root; slots = slots }) new) Untouched result
   stored_promises = record {
     app = refl;
     memory = λ fed. let is = memory_of result s fed in record { below = is.below; stage_at = is };

@@ -46,6 +46,7 @@ use Rattle.run_model.specs.WriteLaws.{call_opened, call_unwritten}
 use Rattle.run_model.specs.Worlds.{Application, application_at}
 use Rattle.run_model.specs.Worlds as worlds
 use Rattle.run_model.specs.Writes.{CostsUpdate, IsCallWithin, IsInNone, next_bank}
+use Rattle.per_runtime.specs.Served.{call_at, on_disk, terms}
 use Rattle.per_runtime.specs.storages.Answers.{CallsTo}
 use Rattle.per_runtime.specs.storages.Slots.{AreOpenOn, IsResting, resting_with, sessions_in}
 use Rattle.per_runtime.specs.declared.application.running.Running.{Running}
@@ -201,7 +202,7 @@ module _ (told : Bool) (converters : Converters) (now : ℕ) (text : List ℕ) (
   updated_leads : (next : App) (row : Result InProgress PerError)
       → BeginsUpdate converters.rules converters.answers now (least_open r) text r.disk row → next
       ≡ after r.disk (rows.updated_row r.disk row)
-      → MayLead converters b.app now (call.Update text) r next
+      → MayLead converters (application_at b.app now r) (call.Update text) next
   updated_leads next (Ok p) begins is = inr (
     answered answer.Done (record r { disk = updated_app p r.disk }),
     (Ok p, begins, refl),
@@ -218,7 +219,7 @@ module _ (told : Bool) (converters : Converters) (now : ℕ) (text : List ℕ) (
 
     may_lead : IsTrue told → (next : App)
         → rows.UpdateMayLead converters.rules converters.answers now busy text r.disk next
-        → MayLead converters b.app now (call.Update text) r next × IsLater r.disk next
+        → MayLead converters (application_at b.app now r) (call.Update text) next × IsLater r.disk next
     may_lead tells next (inl same) = (inl same, subst (λ (a : App). IsLater r.disk a) (sym same) (still r.disk))
     may_lead tells next (inr leads) = (
       updated_leads next leads.0
@@ -281,8 +282,8 @@ module _ (told : Bool) (converters : Converters) (now : ℕ) (text : List ℕ) (
           (λ f is. beside_next b.app (free_bank root) f resting.below (free_low root) is) u.outside
           leads.throughout)
 
-      done_promises : Promises told converters now (call.Update text) before (record b { stage = AtRest o.root })
-          Untouched old new (Ok (reply_of o.refused))
+      done_promises : Promises (terms told converters) (call_at now (call.Update text)) (on_disk before old)
+          (on_disk (record b { stage = AtRest o.root }) new) Untouched (Ok (reply_of o.refused))
       done_promises = record {
         app = refl;
         memory = λ fed. record {
@@ -331,7 +332,8 @@ module _ (told : Bool) (converters : Converters) (now : ℕ) (text : List ℕ) (
           (λ f is. beside_next b.app (free_bank root) f resting.below (free_low root) is) u.outside leads.throughout
 
       device_promises : Updates told converters now text b.app root busy old new (Err stop.Device)
-          → Promises told converters now (call.Update text) before after' Untouched old new (Err stop.Device)
+          → Promises (terms told converters) (call_at now (call.Update text)) (on_disk before old)
+          (on_disk after' new) Untouched (Err stop.Device)
       device_promises u = record {
         app = app;
         memory = λ fed. marked_running told new.image b after' resting.below app stage none;
@@ -362,7 +364,8 @@ module _ (told : Bool) (converters : Converters) (now : ℕ) (text : List ℕ) (
 
       memory_promises : no_update_over (root_says root) ≡ None
           → Updates told converters now text b.app root busy old new (Err stop.OutOfMemory)
-          → Promises told converters now (call.Update text) before after' Untouched old new (Err stop.OutOfMemory)
+          → Promises (terms told converters) (call_at now (call.Update text)) (on_disk before old)
+          (on_disk after' new) Untouched (Err stop.OutOfMemory)
       memory_promises lone u = record {
         app = app;
         memory = λ fed. absurd (fed refl);
@@ -392,7 +395,8 @@ module _ (told : Bool) (converters : Converters) (now : ℕ) (text : List ℕ) (
 
       stopped_promises : no_update_over (root_says root) ≡ None → (e : Stop)
           → Updates told converters now text b.app root busy old new (Err e)
-          → Promises told converters now (call.Update text) before after' Untouched old new (Err e)
+          → Promises (terms told converters) (call_at now (call.Update text)) (on_disk before old)
+          (on_disk after' new) Untouched (Err e)
       stopped_promises lone stop.Device u = device_promises u
       stopped_promises lone stop.OutOfMemory u = memory_promises lone u
 
@@ -401,14 +405,18 @@ module _ (told : Bool) (converters : Converters) (now : ℕ) (text : List ℕ) (
         → Updates told converters now text b.app root busy old new made
         → (after' : Running) (result : Result Reply Stop)
         → ConcludesCall made (record b { stage = ToOpen }) after' result
-        → Promises told converters now (call.Update text) before after' Untouched old new result
+        → Promises (terms told converters) (call_at now (call.Update text)) (on_disk before old) (on_disk after' new)
+        Untouched result
     updated_promises keeps lone (Ok o) u after' result s = subst (λ (x : Running).
-        Promises told converters now (call.Update text) before x Untouched old new result) (sym s.0)
-        (subst (λ (x : Result Reply Stop). Promises told converters now (call.Update text) before
-        (record b { stage = AtRest o.root }) Untouched old new x) (sym s.1) (done_promises o u
+        Promises (terms told converters) (call_at now (call.Update text)) (on_disk before old) (on_disk x new)
+        Untouched result) (sym s.0)
+        (subst (λ (x : Result Reply Stop). Promises (terms told converters) (call_at now (call.Update text))
+        (on_disk before old) (on_disk (record b { stage = AtRest o.root }) new) Untouched x) (sym s.1)
+        (done_promises o u
         (λ tells. within_by (keeps tells) tells u.written u.places)))
     updated_promises keeps lone (Err e) u after' result s = subst (λ (x : Result Reply Stop).
-        Promises told converters now (call.Update text) before after' Untouched old new x) (sym s.3)
+        Promises (terms told converters) (call_at now (call.Update text)) (on_disk before old) (on_disk after' new)
+        Untouched x) (sym s.3)
         (stopped_promises after' s.0 s.1 s.2 (λ tells. within_by (keeps tells) tells u.written u.places) lone e u)
 
 -- what `begin_update` promises
@@ -462,7 +470,8 @@ module _ (told : Bool) (converters : Converters) (now : ℕ) (text : List ℕ) (
     quiet_after quiet = (x.idle quiet).quiet
 
   ready_promises : (s : Staged) → Beginning told converters now text b.app root busy old new (Ok (begin.Ready s))
-      → Promises told converters now c first (record b { stage = Updating s }) Untouched old new (Ok (reply_of None))
+      → Promises (terms told converters) (call_at now c) (on_disk first old)
+      (on_disk (record b { stage = Updating s }) new) Untouched (Ok (reply_of None))
   ready_promises s x = record {
     app = refl;
     memory = λ fed. record {
@@ -513,7 +522,8 @@ module _ (told : Bool) (converters : Converters) (now : ℕ) (text : List ℕ) (
 
   refused_promises : (same : Root) (e : PerError) → Beginning told converters now text b.app root busy old new
       (Ok (begin.Refused same e))
-      → Promises told converters now c first (record b { stage = AtRest same }) Untouched old new
+      → Promises (terms told converters) (call_at now c) (on_disk first old)
+      (on_disk (record b { stage = AtRest same }) new) Untouched
       (Ok (reply_of (Some e)))
   refused_promises same e x = record {
     app = refl;
@@ -570,7 +580,8 @@ module _ (told : Bool) (converters : Converters) (now : ℕ) (text : List ℕ) (
     where
       begin_stopped : no_update_over (root_says root) ≡ None → (e : Stop)
           → Beginning told converters now text b.app root busy old new (Err e)
-          → Promises told converters now c first after' Untouched old new (Err e)
+          → Promises (terms told converters) (call_at now c) (on_disk first old) (on_disk after' new) Untouched
+          (Err e)
       begin_stopped lone stop.Device x = record {
         app = app;
         memory = λ fed. marked_running told new.image b after' resting.below app stage none;
@@ -636,15 +647,18 @@ module _ (told : Bool) (converters : Converters) (now : ℕ) (text : List ℕ) (
       → Beginning told converters now text b.app root busy old new made
       → (after' : Running) (result : Result Reply Stop)
       → ConcludesBegun made (record b { stage = ToOpen }) after' result
-      → Promises told converters now c first after' Untouched old new result
+      → Promises (terms told converters) (call_at now c) (on_disk first old) (on_disk after' new) Untouched result
   begun_promises lone (Ok (begin.Ready s)) x after' result settles =
-      subst (λ (y : Running). Promises told converters now c first y Untouched old new result) (sym settles.0)
-      (subst (λ (y : Result Reply Stop). Promises told converters now c first (record b { stage = Updating s })
-      Untouched old new y) (sym settles.1) (ready_promises s x))
+      subst (λ (y : Running). Promises (terms told converters) (call_at now c) (on_disk first old) (on_disk y new)
+      Untouched result) (sym settles.0)
+      (subst (λ (y : Result Reply Stop). Promises (terms told converters) (call_at now c) (on_disk first old)
+      (on_disk (record b { stage = Updating s }) new) Untouched y) (sym settles.1) (ready_promises s x))
   begun_promises lone (Ok (begin.Refused same e)) x after' result settles =
-      subst (λ (y : Running). Promises told converters now c first y Untouched old new result) (sym settles.0)
-      (subst (λ (y : Result Reply Stop). Promises told converters now c first (record b { stage = AtRest same })
-      Untouched old new y) (sym settles.1) (refused_promises same e x))
+      subst (λ (y : Running). Promises (terms told converters) (call_at now c) (on_disk first old) (on_disk y new)
+      Untouched result) (sym settles.0)
+      (subst (λ (y : Result Reply Stop). Promises (terms told converters) (call_at now c) (on_disk first old)
+      (on_disk (record b { stage = AtRest same }) new) Untouched y) (sym settles.1) (refused_promises same e x))
   begun_promises lone (Err e) x after' result settles = subst
-      (λ (y : Result Reply Stop). Promises told converters now c first after' Untouched old new y) (sym settles.3)
+      (λ (y : Result Reply Stop). Promises (terms told converters) (call_at now c) (on_disk first old)
+      (on_disk after' new) Untouched y) (sym settles.3)
       (begin_stopped after' settles.0 settles.1 settles.2 lone e x)

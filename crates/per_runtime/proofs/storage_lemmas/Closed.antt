@@ -43,9 +43,10 @@ use Rattle.run_model.specs.Found.{FoundStorage, of_kind, storage_in, with_storag
 use Rattle.run_model.specs.Sessions.{Session, keys, seen_of, synced_in_session}
 use Rattle.run_model.specs.Steps.{found_named, reaches_device, uses_device}
 use Rattle.run_model.specs.Worlds.{Application, at_rest}
+use Rattle.per_runtime.specs.Served.{on_disk}
 use Rattle.per_runtime.specs.storages.Durables.{LeavesSlot, IsSet, RepliesDone}
 use Rattle.per_runtime.specs.storages.Finding.{IsEarly, IsLocated, found_on, shape_at}
-use Rattle.per_runtime.specs.storages.Handled.{CostsNamed, IsStorageCallHandled, MayWrite}
+use Rattle.per_runtime.specs.storages.Handled.{CostsNamed, IsStorageCallHandled, MayWrite, resting_at}
 use Rattle.per_runtime.specs.storages.Slots.{IsResting, resting_with, slot_at}
 use Rattle.per_runtime.specs.storages.StorageLaws.{StorageLaws}
 use Rattle.per_runtime.specs.declared.storages.finding.Located.{Located}
@@ -89,7 +90,8 @@ close_early : (w : FilesInUse) (e : PerError) → close_refused (Files w) ≡ So
 close_early w e is = first_early (busy (lowest_handle (session_in (Files w)))) (sync_refused (Files w)) e
     (busy_early (lowest_handle (session_in (Files w)))) (sync_early (Files w)) is
 
-module _ (laws : StorageLaws) (texts : TextLaw) (told : Bool) (app now : ℕ) (root : Root) (was : OpenSlots) (old : Medium)
+module _ (laws : StorageLaws) (texts : TextLaw) (told : Bool) (app now : ℕ) (root : Root) (was : OpenSlots)
+    (old : Medium)
     (law : IsLawful told old)
     (resting : IsResting told old.image app root was) (l : Located) (located : IsLocated app (root_says root) l)
     (name : List ℕ)
@@ -109,13 +111,14 @@ module _ (laws : StorageLaws) (texts : TextLaw) (told : Bool) (app now : ℕ) (r
   -- ---- keys: what is pending is dropped, and nothing is called
 
   module _ (k : KvsSession) (there_is : slot_at was l.number ≡ Some (Keys k)) where
-    dropped_row : IsTrue told → app_step app before now c ≡ Ok (answered answer.Done (without_session before l.number))
+    dropped_row : IsTrue told → app_step app before now c
+        ≡ Ok (answered answer.Done (without_session before l.number))
     dropped_row tells = close_keys_row app now before name f (keys_of k)
         (session_is laws texts told app now root was old resting l located (Keys k) there_is) (named tells)
 
     pub dropped : (Same : Type 0) → Same → (is : OpenSlots) → IsSet l.number None was is → (reply : Reply)
         → RepliesDone reply None
-        → IsStorageCallHandled told app now root c was is old old Same (Ok reply)
+        → IsStorageCallHandled (resting_at told app now root) c (on_disk was old) (on_disk is old) Same (Ok reply)
     dropped Same same is emptied reply says = record {
       ends = record {
         answered = λ tells. record {
@@ -184,7 +187,8 @@ module _ (laws : StorageLaws) (texts : TextLaw) (told : Bool) (app now : ℕ) (r
         (Ok (answered answer.Done (after_by shape))))
         (shape_in_is laws texts told app now root was old resting l located storage there_is)
 
-    reaches : IsTrue told → (x : Outcome) → app_step app before now c ≡ Ok x → IsTrue (reaches_device app before now c)
+    reaches : IsTrue told → (x : Outcome) → app_step app before now c ≡ Ok x
+        → IsTrue (reaches_device app before now c)
     reaches tells x row = close_reaches app now before name f x (found_files tells) refl row
 
     module _ (new : Medium) (Same : Type 0) (by_disk : Same → new ≡ old) (result : Result Closing Stop)
@@ -207,7 +211,8 @@ module _ (laws : StorageLaws) (texts : TextLaw) (told : Bool) (app now : ℕ) (r
       shape = shape_there laws texts told app now root was old resting l located storage there_is
 
       storing : IsStoring told (shape_at l) (Opens (durable_view storage) []) old new
-      storing = subst (λ (sh : Shape). IsStoring told sh (Opens (durable_view storage) []) old new) shape closes.storing
+      storing = subst (λ (sh : Shape). IsStoring told sh (Opens (durable_view storage) []) old new) shape
+          closes.storing
 
       never_due : (e : Stop) → result ≡ Err e → (x : PerError) → close_refused storage ≡ Some x → ⊥
       never_due e err x is = clash (closes.due x is).0
@@ -216,7 +221,7 @@ module _ (laws : StorageLaws) (texts : TextLaw) (told : Bool) (app now : ℕ) (r
           clash ok = absurd cc
 
       pub closed_err : (is : OpenSlots) → IsSet l.number None was is → (e : Stop) → result ≡ Err e
-          → IsStorageCallHandled told app now root c was is old new Same (Err e)
+          → IsStorageCallHandled (resting_at told app now root) c (on_disk was old) (on_disk is new) Same (Err e)
       closed_err is emptied e err = stopped_handled laws texts told app now root was old resting l located storage
           there_is c (close_refused storage) after refl refl closed_row named_so reaches
           new Same idle written costs storing is emptied e (none_of (close_refused storage) (never_due e err))
@@ -225,12 +230,13 @@ module _ (laws : StorageLaws) (texts : TextLaw) (told : Bool) (app now : ℕ) (r
 
       pub closed_ok : (left : Closing) → result ≡ Ok left → (mid is : OpenSlots) → IsSet l.number None was mid
           → (reply : Reply) → LeavesSlot l.number left mid is reply
-          → IsStorageCallHandled told app now root c was is old new Same (Ok reply)
+          → IsStorageCallHandled (resting_at told app now root) c (on_disk was old) (on_disk is new) Same (Ok reply)
       closed_ok closing.Done ok mid is emptied reply (same, says) =
           let none : close_refused storage ≡ None = subst (λ (r : Result Closing Stop).
           IfOk r (IsClosedOrRefused storage (close_refused storage))) ok closes.done in
           let set = ap (λ (s : OpenSlots). s.open.items) same ∙ emptied in
-          done_handled laws texts told app now root was old resting l located storage there_is c (close_refused storage)
+          done_handled laws texts told app now root was old resting l located storage there_is c
+          (close_refused storage)
           after refl refl closed_row named_so reaches new Same idle written costs storing is reply none says
           (resting_after laws app root l located told old.image new.image storing.elsewhere was is None resting set
           (λ o some. absurd cc))
@@ -254,7 +260,8 @@ module _ (laws : StorageLaws) (texts : TextLaw) (told : Bool) (app now : ℕ) (r
           let back = put_back was is l.number storage there_is
           (set ∙ (ap (λ (o : Open). slice_set mid.open.items l.number (Some o)) refusal.1
           ∙ ap (λ (xs : List (Option Open)). slice_set xs l.number (Some storage)) emptied)) in
-          subst (λ (m : Medium). IsStorageCallHandled told app now root c was is old m Same (Ok reply))
+          subst (λ (m : Medium). IsStorageCallHandled (resting_at told app now root) c (on_disk was old)
+          (on_disk is m) Same (Ok reply))
           (sym (by_disk due.1))
           (early_handled laws told app now root c was old Same due.1 law resting texts is back e
           (close_early w e refusal.0) reply says
@@ -266,7 +273,7 @@ module _ (laws : StorageLaws) (texts : TextLaw) (told : Bool) (app now : ℕ) (r
   module _ (new : Medium) (Same : Type 0) (by_disk : Same → new ≡ old) (result : Result Closing Stop) where
     pub close_err : (storage : Open) → slot_at was l.number ≡ Some storage → Closes told storage old new Same result
         → (is : OpenSlots) → IsSet l.number None was is → (e : Stop) → result ≡ Err e
-        → IsStorageCallHandled told app now root c was is old new Same (Err e)
+        → IsStorageCallHandled (resting_at told app now root) c (on_disk was old) (on_disk is new) Same (Err e)
     close_err (Keys k) there_is closes is emptied e err =
         absurd (clash (closes.keys (sym (at laws texts told app now root was old resting l located (Keys k)
         there_is).kind)).0)
@@ -279,11 +286,12 @@ module _ (laws : StorageLaws) (texts : TextLaw) (told : Bool) (app now : ℕ) (r
     pub close_ok : (storage : Open) → slot_at was l.number ≡ Some storage → Closes told storage old new Same result
         → (left : Closing) → result ≡ Ok left → (mid is : OpenSlots)
         → IsSet l.number None was mid → (reply : Reply) → LeavesSlot l.number left mid is reply
-        → IsStorageCallHandled told app now root c was is old new Same (Ok reply)
+        → IsStorageCallHandled (resting_at told app now root) c (on_disk was old) (on_disk is new) Same (Ok reply)
     close_ok (Keys k) there_is closes closing.Done ok mid is emptied reply (same, says) =
         let untouched = closes.keys (sym (at laws texts told app now root was old resting l located (Keys k)
         there_is).kind) in
-        subst (λ (m : Medium). IsStorageCallHandled told app now root c was is old m Same (Ok reply))
+        subst (λ (m : Medium). IsStorageCallHandled (resting_at told app now root) c (on_disk was old) (on_disk is m)
+        Same (Ok reply))
         (sym (by_disk untouched.1))
         (dropped k there_is Same untouched.1 is (ap (λ (s : OpenSlots). s.open.items) same ∙ emptied) reply says)
     close_ok (Keys k) there_is closes (closing.Refused same e) ok mid is emptied reply left_so =

@@ -45,11 +45,12 @@ use Rattle.run_model.specs.Found.{FoundStorage, of_kind, shape_in, with_storage_
 use Rattle.run_model.specs.Runtimes.{WritesWithin, is_refusal}
 use Rattle.run_model.specs.Sessions.{Session, seen_of, synced_in_session}
 use Rattle.run_model.specs.Steps.{found_named, reaches_device, uses_device}
-use Rattle.run_model.specs.Worlds.{Application, at_rest}
+use Rattle.run_model.specs.Worlds.{Application, at_rest, application_at}
+use Rattle.per_runtime.specs.Served.{on_disk}
 use Rattle.per_runtime.specs.storages.Answers.{StorageCallMayLead}
 use Rattle.per_runtime.specs.storages.Durables.{IsSet, RepliesDone}
 use Rattle.per_runtime.specs.storages.Finding.{IsLocated, config_of, found_on, shape_at}
-use Rattle.per_runtime.specs.storages.Handled.{CostsNamed, IsStorageCallHandled, MayWrite, StaysInPlace}
+use Rattle.per_runtime.specs.storages.Handled.{CostsNamed, IsStorageCallHandled, MayWrite, StaysInPlace, resting_at}
 use Rattle.per_runtime.specs.storages.Handled.{StaysUnlessFound}
 use Rattle.per_runtime.specs.storages.Slots.{IsOpenAt, IsResting, resting_with, sessions_in, slot_at}
 use Rattle.per_runtime.specs.storages.StorageLaws.{StorageLaws}
@@ -113,7 +114,8 @@ pub err_not_due : (told : Bool) (storage : Open) (refused : Option PerError) (ol
 err_not_due told storage refused old new Same result e makes err =
     none_of refused (λ f is. ok_err result (made.Refused storage f) e (makes.due f is).0 err)
 
-module _ (laws : StorageLaws) (texts : TextLaw) (told : Bool) (app now : ℕ) (root : Root) (was : OpenSlots) (old : Medium)
+module _ (laws : StorageLaws) (texts : TextLaw) (told : Bool) (app now : ℕ) (root : Root) (was : OpenSlots)
+    (old : Medium)
     (resting : IsResting told old.image app root was) (l : Located) (located : IsLocated app (root_says root) l)
     (storage : Open) (there_is : slot_at was l.number ≡ Some storage) where
   abbrev before : Application
@@ -224,7 +226,7 @@ module _ (laws : StorageLaws) (texts : TextLaw) (told : Bool) (app now : ℕ) (r
     pub row_err : (e : PerError) → refused ≡ Some e → IsTrue told → app_step app before now c ≡ Err e
     row_err e due tells = row tells ∙ ap (λ (r : Option PerError). refused_by r (Ok (answered answer.Done after))) due
 
-    leads : refused ≡ None → IsTrue told → StorageCallMayLead app now c before
+    leads : refused ≡ None → IsTrue told → StorageCallMayLead (application_at app now before) c
         (with_storage_state (app_at old.image app) f next)
     leads none tells = inr (sym disk ∙ sym (ap (λ (x : Result Outcome PerError). (concluded before x).1.disk)
         (row_ok none tells)))
@@ -247,7 +249,7 @@ module _ (laws : StorageLaws) (texts : TextLaw) (told : Bool) (app now : ℕ) (r
       -- memory ran out, or the device failed
       pub stopped_handled : (is : OpenSlots) → IsSet l.number None was is → (e : Stop) → refused ≡ None
           → (e ≡ Device → Rose old.faults new.faults) → (e ≡ OutOfMemory → new.faults ≡ old.faults)
-          → IsStorageCallHandled told app now root c was is old new Same (Err e)
+          → IsStorageCallHandled (resting_at told app now root) c (on_disk was old) (on_disk is new) Same (Err e)
       stopped_handled is emptied Device none cause fed = record {
         ends = lost laws told app now root c was is old new l located resting next storing
             (λ tells. reaches tells (answered answer.Done after) (row_ok none tells)) (leads none) named emptied
@@ -278,7 +280,7 @@ module _ (laws : StorageLaws) (texts : TextLaw) (told : Bool) (app now : ℕ) (r
           → IsResting told new.image app root is → (IsTrue told → store_at new.image (shape_at l) ≡ next)
           → sessions_in is ≡ after.sessions → (IsTrue told → IsClean (shape_at l) old.image
           → IsClean (shape_at l) new.image) → (Quiet old → Quiet new) → new.faults ≡ old.faults
-          → IsStorageCallHandled told app now root c was is old new Same (Ok reply)
+          → IsStorageCallHandled (resting_at told app now root) c (on_disk was old) (on_disk is new) Same (Ok reply)
       done_handled is reply none says rests there sessions clean quiet passes = record {
         ends = record {
           answered = λ tells. answered_so laws told app now root c was is old new l located resting next storing tells

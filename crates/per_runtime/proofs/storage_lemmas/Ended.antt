@@ -25,11 +25,12 @@ use Rattle.run_model.specs.Calls.{app_step, concluded}
 use Rattle.run_model.specs.Found.{FoundStorage, with_storage_state}
 use Rattle.run_model.specs.Sessions.{Session}
 use Rattle.run_model.specs.Steps.{after_failure, found_named, reaches_device}
-use Rattle.run_model.specs.Worlds.{Application, Stage, at_rest}
+use Rattle.run_model.specs.Worlds.{Application, Stage, at_rest, application_at}
+use Rattle.per_runtime.specs.Served.{on_disk}
 use Rattle.per_runtime.specs.storages.Answers.{CallsTo, HasStorageCallStopped, IsStorageCallAnswered, StorageCallMayLead}
 use Rattle.per_runtime.specs.storages.Durables.{IsSet, RepliesDone}
 use Rattle.per_runtime.specs.storages.Finding.{IsEarly, IsLocated, config_of, found_on, shape_at}
-use Rattle.per_runtime.specs.storages.Handled.{IsLost, IsStorageCallHandled, StaysInPlace}
+use Rattle.per_runtime.specs.storages.Handled.{IsLost, IsStorageCallHandled, StaysInPlace, resting_at}
 use Rattle.per_runtime.specs.storages.Needs.{CallNeedsMemory}
 use Rattle.per_runtime.specs.storages.Slots.{IsResting, resting_with, sessions_in}
 use Rattle.per_runtime.specs.storages.StorageLaws.{StorageLaws}
@@ -55,7 +56,7 @@ module _ (laws : StorageLaws) (told : Bool) (app now : ℕ) (root : Root) (c : C
   pub early_handled : TextLaw → (is : OpenSlots) → is.open.items ≡ was.open.items → (e : PerError) → IsEarly e
       → (reply : Reply) → RepliesDone reply (Some e)
       → (IsTrue told → app_step app (resting_with m.image app was) now c ≡ Err e)
-      → IsStorageCallHandled told app now root c was is m m Same (Ok reply)
+      → IsStorageCallHandled (resting_at told app now root) c (on_disk was m) (on_disk is m) Same (Ok reply)
   early_handled texts is back e early reply says row = record {
     ends = record {
       answered = λ tells. record {
@@ -77,7 +78,8 @@ module _ (laws : StorageLaws) (told : Bool) (app now : ℕ) (root : Root) (c : C
         root_at = resting.root_at;
         open_on = record {
           room = ap length back ∙ resting.open_on.room;
-          each = λ k o at. resting.open_on.each k o (ap (λ (xs : List (Option Open)). slice_get xs k) (sym back) ∙ at);
+          each = λ k o at. resting.open_on.each k o
+              (ap (λ (xs : List (Option Open)). slice_get xs k) (sym back) ∙ at);
         };
       };
       quiet = λ quiet. quiet;
@@ -97,7 +99,7 @@ module _ (laws : StorageLaws) (told : Bool) (app now : ℕ) (root : Root) (c : C
 
   -- memory ran out
   pub starved_handled : (IsTrue told → CallNeedsMemory app now c (resting_with m.image app was)) → (is : OpenSlots)
-      → IsStorageCallHandled told app now root c was is m m Same (Err OutOfMemory)
+      → IsStorageCallHandled (resting_at told app now root) c (on_disk was m) (on_disk is m) Same (Err OutOfMemory)
   starved_handled needs is = record {
     ends = (
       refl,
@@ -118,7 +120,8 @@ module _ (laws : StorageLaws) (told : Bool) (app now : ℕ) (root : Root) (c : C
 
 -- ---- a storage was on its way to its next state
 
-module _ (laws : StorageLaws) (told : Bool) (app now : ℕ) (root : Root) (c : Call) (was is : OpenSlots) (old new : Medium)
+module _ (laws : StorageLaws) (told : Bool) (app now : ℕ) (root : Root) (c : Call) (was is : OpenSlots)
+    (old new : Medium)
     (l : Located)
     (located : IsLocated app (root_says root) l) (resting : IsResting told old.image app root was) (next : State)
     (storing : IsStoring told (shape_at l) next old new) where
@@ -136,9 +139,10 @@ module _ (laws : StorageLaws) (told : Bool) (app now : ℕ) (root : Root) (c : C
 
   -- where the device failed, its session ends
   pub lost : (IsTrue told → IsTrue (reaches_device app before now c))
-      → (IsTrue told → StorageCallMayLead app now c before next_app)
+      → (IsTrue told → StorageCallMayLead (application_at app now before) c next_app)
       → (IsTrue told → found_named before c ≡ Some (Ok f))
-      → IsSet l.number None was is → Rose old.faults new.faults → IsLost told app now root c was is old new
+      → IsSet l.number None was is → Rose old.faults new.faults
+      → IsLost (resting_at told app now root) c (on_disk was old) (on_disk is new)
   lost reaches leads named emptied rose = record {
     failed = λ tells. record {
       reaches = reaches tells;
@@ -158,7 +162,8 @@ module _ (laws : StorageLaws) (told : Bool) (app now : ℕ) (root : Root) (c : C
     cause = rose;
   }
 
-  same_found : (x : Option (Result FoundStorage PerError)) (g h : FoundStorage) → x ≡ Some (Ok g) → x ≡ Some (Ok h) → h ≡ g
+  same_found : (x : Option (Result FoundStorage PerError)) (g h : FoundStorage) → x ≡ Some (Ok g) → x ≡ Some (Ok h)
+      → h ≡ g
   same_found x g h one other = cc
 
   -- no file changes beside those of its place
@@ -172,8 +177,8 @@ module _ (laws : StorageLaws) (told : Bool) (app now : ℕ) (root : Root) (c : C
       (same_found (found_named before c) f g (named tells) is) beside)))
 
   pub stopped : (IsTrue told → CallNeedsMemory app now c before)
-      → (IsTrue told → StorageCallMayLead app now c before next_app) → IsTrue told
-      → HasStorageCallStopped app now c before old new
+      → (IsTrue told → StorageCallMayLead (application_at app now before) c next_app) → IsTrue told
+      → HasStorageCallStopped (application_at app now before) c old new
   stopped needs leads tells = record {
     needs = needs tells;
     next = next_app;
@@ -192,7 +197,7 @@ module _ (laws : StorageLaws) (told : Bool) (app now : ℕ) (root : Root) (c : C
         (app_step app before now c)
         → after.disk ≡ next_app → after.stage ≡ at_rest → sessions_in is ≡ after.sessions
         → (IsClean (shape_at l) old.image → IsClean (shape_at l) new.image)
-        → IsStorageCallAnswered app now c before (resting_with new.image app is) reply old new
+        → IsStorageCallAnswered (application_at app now before) c (reply, (resting_with new.image app is)) old new
     answered_so reply after row disk stage sessions clean = record {
       row = ap (λ (a : Application). (reply, a)) after_is ∙ row;
       calls = subst (λ (a : App). CallsTo app a old new) (sym app_is) (calls tells);
@@ -202,7 +207,8 @@ module _ (laws : StorageLaws) (told : Bool) (app now : ℕ) (root : Root) (c : C
     }
       where
         after_is : resting_with new.image app is ≡ after
-        after_is = ap (λ (a : App). record { disk = a; stage = at_rest; sessions = sessions_in is }) (app_is ∙ sym disk)
+        after_is = ap (λ (a : App). record { disk = a; stage = at_rest; sessions = sessions_in is })
+            (app_is ∙ sym disk)
             ∙ (ap (λ (ss : List (Option Session)). record { disk = after.disk; stage = at_rest; sessions = ss })
             sessions
             ∙ ap (λ (s : Stage). record { disk = after.disk; stage = s; sessions = after.sessions }) (sym stage))

@@ -25,83 +25,96 @@ use Rattle.run_model.specs.Costs.{named_cost, storage_cost}
 use Rattle.run_model.specs.Found.{FoundStorage}
 use Rattle.run_model.specs.Runtimes.{IsUnwritten, is_refusal}
 use Rattle.run_model.specs.Steps.{found_named}
-use Rattle.run_model.specs.Worlds.{Application}
+use Rattle.run_model.specs.Worlds.{Application, application_at}
+use Rattle.per_runtime.specs.Served.{on_disk}
 use Rattle.per_runtime.specs.storages.Answers.{CallsTo, HasStorageCallFailed, HasStorageCallStopped, IsStorageCallAnswered}
-use Rattle.per_runtime.specs.storages.Handled.{CostsNamed, IsStorageCallHandled, MayWrite, StaysUnlessFound}
+use Rattle.per_runtime.specs.storages.Handled.{CostsNamed, IsStorageCallHandled, MayWrite, StaysUnlessFound, resting_at}
 use Rattle.per_runtime.specs.storages.Slots.{IsResting, resting_with}
 use Rattle.per_runtime.specs.declared.storages.slots.OpenSlots.{OpenSlots}
 
 -- ---- each promise
 
-module _ {told : Bool} {app now : ℕ} {root : Root} {c : Call} {was is : OpenSlots} {old new : Medium} {Same : Type 0} where
-  pub answered_of : (result : Result Reply Stop) → IsStorageCallHandled told app now root c was is old new Same result
-      → IsTrue told
-      → IfOk result (λ reply. IsStorageCallAnswered app now c (resting_with old.image app was)
-      (resting_with new.image app is)
-      reply old new)
-  answered_of (Ok reply) handled tells = handled.ends.answered tells
-  answered_of (Err e) handled tells = tt
+module _ {told : Bool} {app now : ℕ} {root : Root} {c : Call} {was is : OpenSlots} {old new : Medium} {Same : Type 0}
+  where
+    pub answered_of : (result : Result Reply Stop)
+        → IsStorageCallHandled (resting_at told app now root) c (on_disk was old) (on_disk is new) Same result
+        → IsTrue told
+        → IfOk result (λ reply. IsStorageCallAnswered (application_at app now (resting_with old.image app was)) c
+        (reply, (resting_with new.image app is)) old new)
+    answered_of (Ok reply) handled tells = handled.ends.answered tells
+    answered_of (Err e) handled tells = tt
 
-  pub failed_of : (result : Result Reply Stop) → IsStorageCallHandled told app now root c was is old new Same result
-      → IsTrue told
-      → IsErrOf result Device
-      → HasStorageCallFailed app now c (resting_with old.image app was) (resting_with new.image app is) old new
-  failed_of (Ok reply) handled tells err = absurd cc
-  failed_of (Err Device) handled tells err = handled.ends.failed tells
-  failed_of (Err OutOfMemory) handled tells err = absurd cc
+    pub failed_of : (result : Result Reply Stop)
+        → IsStorageCallHandled (resting_at told app now root) c (on_disk was old) (on_disk is new) Same result
+        → IsTrue told
+        → IsErrOf result Device
+        → HasStorageCallFailed (application_at app now (resting_with old.image app was)) c
+        (resting_with new.image app is) old new
+    failed_of (Ok reply) handled tells err = absurd cc
+    failed_of (Err Device) handled tells err = handled.ends.failed tells
+    failed_of (Err OutOfMemory) handled tells err = absurd cc
 
-  pub stopped_of : (result : Result Reply Stop) → IsStorageCallHandled told app now root c was is old new Same result
-      → IsTrue told
-      → IsErrOf result OutOfMemory
-      → HasStorageCallStopped app now c (resting_with old.image app was) old new
-  stopped_of (Ok reply) handled tells err = absurd cc
-  stopped_of (Err Device) handled tells err = absurd cc
-  stopped_of (Err OutOfMemory) handled tells err = handled.ends.1 tells
+    pub stopped_of : (result : Result Reply Stop)
+        → IsStorageCallHandled (resting_at told app now root) c (on_disk was old) (on_disk is new) Same result
+        → IsTrue told
+        → IsErrOf result OutOfMemory
+        → HasStorageCallStopped (application_at app now (resting_with old.image app was)) c old new
+    stopped_of (Ok reply) handled tells err = absurd cc
+    stopped_of (Err Device) handled tells err = absurd cc
+    stopped_of (Err OutOfMemory) handled tells err = handled.ends.1 tells
 
-  pub memory_of : (result : Result Reply Stop) → IsStorageCallHandled told app now root c was is old new Same result
-      → (IsErrOf result OutOfMemory → ⊥)
-      → IsResting told new.image app root is
-  memory_of (Ok reply) handled fed = handled.ends.memory
-  memory_of (Err Device) handled fed = handled.ends.memory
-  memory_of (Err OutOfMemory) handled fed = absurd (fed refl)
+    pub memory_of : (result : Result Reply Stop)
+        → IsStorageCallHandled (resting_at told app now root) c (on_disk was old) (on_disk is new) Same result
+        → (IsErrOf result OutOfMemory → ⊥)
+        → IsResting told new.image app root is
+    memory_of (Ok reply) handled fed = handled.ends.memory
+    memory_of (Err Device) handled fed = handled.ends.memory
+    memory_of (Err OutOfMemory) handled fed = absurd (fed refl)
 
-  pub quiet_of : (result : Result Reply Stop) → IsStorageCallHandled told app now root c was is old new Same result
-      → Quiet old
-      → OnOk result (Quiet new)
-  quiet_of (Ok reply) handled quiet = handled.ends.quiet quiet
-  quiet_of (Err e) handled quiet = tt
+    pub quiet_of : (result : Result Reply Stop)
+        → IsStorageCallHandled (resting_at told app now root) c (on_disk was old) (on_disk is new) Same result
+        → Quiet old
+        → OnOk result (Quiet new)
+    quiet_of (Ok reply) handled quiet = handled.ends.quiet quiet
+    quiet_of (Err e) handled quiet = tt
 
-  pub unwritten_of : (result : Result Reply Stop) → IsStorageCallHandled told app now root c was is old new Same result
-      → IfOk result (λ reply. is_refusal reply.answer ≡ true → IsUnwritten old new)
-  unwritten_of (Ok reply) handled = handled.ends.unwritten
-  unwritten_of (Err e) handled = tt
+    pub unwritten_of : (result : Result Reply Stop)
+        → IsStorageCallHandled (resting_at told app now root) c (on_disk was old) (on_disk is new) Same result
+        → IfOk result (λ reply. is_refusal reply.answer ≡ true → IsUnwritten old new)
+    unwritten_of (Ok reply) handled = handled.ends.unwritten
+    unwritten_of (Err e) handled = tt
 
-  pub cause_of : (result : Result Reply Stop) → IsStorageCallHandled told app now root c was is old new Same result
-      → IsErrOf result Device → Rose old.faults new.faults
-  cause_of (Ok reply) handled err = absurd cc
-  cause_of (Err Device) handled err = handled.ends.cause
-  cause_of (Err OutOfMemory) handled err = absurd cc
+    pub cause_of : (result : Result Reply Stop)
+        → IsStorageCallHandled (resting_at told app now root) c (on_disk was old) (on_disk is new) Same result
+        → IsErrOf result Device → Rose old.faults new.faults
+    cause_of (Ok reply) handled err = absurd cc
+    cause_of (Err Device) handled err = handled.ends.cause
+    cause_of (Err OutOfMemory) handled err = absurd cc
 
-  pub passes_of : (result : Result Reply Stop) → IsStorageCallHandled told app now root c was is old new Same result
-      → OnOk result (new.faults ≡ old.faults)
-  passes_of (Ok reply) handled = handled.ends.passes
-  passes_of (Err e) handled = tt
+    pub passes_of : (result : Result Reply Stop)
+        → IsStorageCallHandled (resting_at told app now root) c (on_disk was old) (on_disk is new) Same result
+        → OnOk result (new.faults ≡ old.faults)
+    passes_of (Ok reply) handled = handled.ends.passes
+    passes_of (Err e) handled = tt
 
-  pub fed_of : (result : Result Reply Stop) → IsStorageCallHandled told app now root c was is old new Same result
-      → IsErrOf result OutOfMemory → new.faults ≡ old.faults
-  fed_of (Ok reply) handled err = absurd cc
-  fed_of (Err Device) handled err = absurd cc
-  fed_of (Err OutOfMemory) handled err = handled.ends.0
+    pub fed_of : (result : Result Reply Stop)
+        → IsStorageCallHandled (resting_at told app now root) c (on_disk was old) (on_disk is new) Same result
+        → IsErrOf result OutOfMemory → new.faults ≡ old.faults
+    fed_of (Ok reply) handled err = absurd cc
+    fed_of (Err Device) handled err = absurd cc
+    fed_of (Err OutOfMemory) handled err = handled.ends.0
 
-  pub unfailed_of : (result : Result Reply Stop) → IsStorageCallHandled told app now root c was is old new Same result
-      → IfOk result (λ reply. reply.answer ≢ answer.Error error.PhysicalStorageFailure)
-  unfailed_of (Ok reply) handled = handled.ends.unfailed
-  unfailed_of (Err e) handled = tt
+    pub unfailed_of : (result : Result Reply Stop)
+        → IsStorageCallHandled (resting_at told app now root) c (on_disk was old) (on_disk is new) Same result
+        → IfOk result (λ reply. reply.answer ≢ answer.Error error.PhysicalStorageFailure)
+    unfailed_of (Ok reply) handled = handled.ends.unfailed
+    unfailed_of (Err e) handled = tt
 
-  pub text_of : (result : Result Reply Stop) → IsStorageCallHandled told app now root c was is old new Same result
-      → IfOk result (λ reply. HasText reply.answer)
-  text_of (Ok reply) handled = handled.ends.text
-  text_of (Err e) handled = tt
+    pub text_of : (result : Result Reply Stop)
+        → IsStorageCallHandled (resting_at told app now root) c (on_disk was old) (on_disk is new) Same result
+        → IfOk result (λ reply. HasText reply.answer)
+    text_of (Ok reply) handled = handled.ends.text
+    text_of (Err e) handled = tt
 
 -- ---- a disk that was not touched
 
@@ -159,7 +172,8 @@ pub refused_row : (app now : ℕ) (c : Call) (before : Application) (e : PerErro
     → app_step app before now c ≡ Err e → (reply, before) ≡ concluded before (app_step app before now c)
 refused_row app now c before e reply is row = ap (λ (r : Reply). (r, before)) is ∙ sym (ap (concluded before) row)
 
-plain : (e : PerError) → is_refusal (answer.Error e) ≡ true → answer.Error e ≢ answer.Error error.PhysicalStorageFailure
+plain : (e : PerError) → is_refusal (answer.Error e) ≡ true
+    → answer.Error e ≢ answer.Error error.PhysicalStorageFailure
 plain e plainly same = absurd (true≢false (sym plainly ∙ ap is_refusal same))
 
 -- It was refused, and nothing was called.
@@ -169,7 +183,7 @@ pub refused_handled : UntouchedAppLaw → (told : Bool) (app now : ℕ) (root : 
     → reply ≡ record { reports = []; answer = answer.Error e }
     → is_refusal (answer.Error e) ≡ true → HasText (answer.Error e)
     → (IsTrue told → app_step app (resting_with m.image app slots) now c ≡ Err e)
-    → IsStorageCallHandled told app now root c slots slots m m Same (Ok reply)
+    → IsStorageCallHandled (resting_at told app now root) c (on_disk slots m) (on_disk slots m) Same (Ok reply)
 refused_handled untouched told app now root c slots m Same law resting same e reply is plainly text row = record {
   ends = record {
     answered = λ tells. record {

@@ -30,9 +30,10 @@ use Rattle.run_model.specs.Calls.{app_step, local_on, session_at, concluded, wit
 use Rattle.run_model.specs.Found.{storage_in}
 use Rattle.run_model.specs.Sessions.{Session, in_session}
 use Rattle.run_model.specs.Worlds.{Application, Sessions, at_rest}
+use Rattle.per_runtime.specs.Served.{on_disk}
 use Rattle.per_runtime.specs.storages.Durables.{IsSet, IsShown}
 use Rattle.per_runtime.specs.storages.Finding.{IsEarly, IsLocated, config_of, found_on}
-use Rattle.per_runtime.specs.storages.Handled.{IsStorageCallHandled}
+use Rattle.per_runtime.specs.storages.Handled.{IsStorageCallHandled, resting_at}
 use Rattle.per_runtime.specs.storages.Needs.{CallNeedsMemory}
 use Rattle.per_runtime.specs.storages.Openings.{TellsRefusal, TellsAnswer}
 use Rattle.per_runtime.specs.storages.Slots.{IsOpenAt, IsResting, resting_with, sessions_in, slot_at}
@@ -47,13 +48,14 @@ use Rattle.per_runtime.proofs.storage_lemmas.SlotLaws.{none_there, session_slot,
 use Rattle.per_runtime.proofs.storage_lemmas.Storing.{idle_calls, open_there, resting_after}
 
 -- it was answered in memory, whatever was answered
-pub idle_handled : StorageLaws → (told : Bool) (app now : ℕ) (root : Root) (c : Call) (was is : OpenSlots) (m : Medium)
+pub idle_handled : StorageLaws
+    → (told : Bool) (app now : ℕ) (root : Root) (c : Call) (was is : OpenSlots) (m : Medium)
     (Same : Type 0) → Same → IsLawful told m
     → IsResting told m.image app root was → IsResting told m.image app root is → (reply : Reply)
     → (IsTrue told → (reply, resting_with m.image app is)
     ≡ concluded (resting_with m.image app was) (app_step app (resting_with m.image app was) now c))
     → reply.answer ≢ answer.Error error.PhysicalStorageFailure → HasText reply.answer
-    → IsStorageCallHandled told app now root c was is m m Same (Ok reply)
+    → IsStorageCallHandled (resting_at told app now root) c (on_disk was m) (on_disk is m) Same (Ok reply)
 idle_handled laws told app now root c was is m Same same law was_resting is_resting reply row unfailed text = record {
   ends = record {
     answered = λ tells. record {
@@ -84,7 +86,8 @@ not_failed : (a : Answer) → is_error a ≡ false → a ≢ answer.Error error.
 not_failed a plain same = absurd (true≢false (sym (ap is_error same) ∙ plain))
 
 -- the same slots, in another vector
-resting_same : (told : Bool) (image : Image) (app : ℕ) (root : Root) (was is : OpenSlots) → is.open.items ≡ was.open.items
+resting_same : (told : Bool) (image : Image) (app : ℕ) (root : Root) (was is : OpenSlots) → is.open.items
+    ≡ was.open.items
     → IsResting told image app root was → IsResting told image app root is
 resting_same told image app root was is same rest = record {
   below = rest.below;
@@ -101,7 +104,7 @@ pub refused_before : StorageLaws → TextLaw → (told : Bool) (app now : ℕ) (
     → IsResting told m.image app root was → is.open.items ≡ was.open.items → (e : PerError) → IsEarly e
     → (reply : Reply) → reply ≡ record { reports = []; answer = answer.Error e }
     → (IsTrue told → app_step app (resting_with m.image app was) now c ≡ Err e)
-    → IsStorageCallHandled told app now root c was is m m Same (Ok reply)
+    → IsStorageCallHandled (resting_at told app now root) c (on_disk was m) (on_disk is m) Same (Ok reply)
 refused_before laws texts told app now root c was is m Same same law resting back e early reply says row =
     idle_handled laws told app now root c was is m Same same law resting
     (resting_same told m.image app root was is back resting) reply
@@ -180,7 +183,7 @@ module _ (laws : StorageLaws) (texts : TextLaw) (told : Bool) (app now : ℕ) (r
 
   answered_handled : (a : Answer) (reply : Reply) → reply ≡ record { reports = []; answer = a }
       → in_session (config_in o) now (session_in o) c ≡ Ok (a, session_in later) → HasText a
-      → IsStorageCallHandled told app now root c was is m m Same (Ok reply)
+      → IsStorageCallHandled (resting_at told app now root) c (on_disk was m) (on_disk is m) Same (Ok reply)
   answered_handled a reply says row text = idle_handled laws told app now root c was is m Same same law resting
       is_resting reply
       (λ tells. ap (λ (r : Reply). (r, resting_with m.image app is)) says
@@ -196,7 +199,7 @@ module _ (laws : StorageLaws) (texts : TextLaw) (told : Bool) (app now : ℕ) (r
       → reply ≡ record { reports = []; answer = answer.Error e }
       → IsRefusal (in_session (config_in o) now (session_in o) c) e → e ≢ error.PhysicalStorageFailure
       → session_in later ≡ session_in o
-      → IsStorageCallHandled told app now root c was is m m Same (Ok reply)
+      → IsStorageCallHandled (resting_at told app now root) c (on_disk was m) (on_disk is m) Same (Ok reply)
   refused_in e reply fed says row unfailed unchanged = idle_handled laws told app now root c was is m Same same law
       resting is_resting reply
       (λ tells. ap (λ (x : Application). (reply, x)) (with_same unchanged)
@@ -207,7 +210,8 @@ module _ (laws : StorageLaws) (texts : TextLaw) (told : Bool) (app now : ℕ) (r
       (sym (ap (λ (r : Reply). r.answer) says) ∙ failed)))
       (subst (λ (r : Reply). HasText r.answer) (sym says) (texts e fed))
 
-  call_needs : NeedsMemory (in_session (config_in o) now (session_in o) c) → IsTrue told → CallNeedsMemory app now c before
+  call_needs : NeedsMemory (in_session (config_in o) now (session_in o) c) → IsTrue told
+      → CallNeedsMemory app now c before
   call_needs needs tells = session_needs app now before c name kind on (found_on m.image l)
       (found m.image (resting.root_at.disk tells)) (session_in o) session_is
       (subst (λ (s : StorageData). NeedsMemory (in_session s now (session_in o) c)) found_config needs)
@@ -215,7 +219,8 @@ module _ (laws : StorageLaws) (texts : TextLaw) (told : Bool) (app now : ℕ) (r
   refuses_handled : (e : PerError) (result : Result Reply Stop) → TellsRefusal e result
       → IsRefusal (in_session (config_in o) now (session_in o) c) e → e ≢ error.PhysicalStorageFailure
       → (e ≡ error.OutOfMemory → NeedsMemory (in_session (config_in o) now (session_in o) c))
-      → session_in later ≡ session_in o → IsStorageCallHandled told app now root c was is m m Same result
+      → session_in later ≡ session_in o
+      → IsStorageCallHandled (resting_at told app now root) c (on_disk was m) (on_disk is m) Same result
   refuses_handled e (Ok reply) refused row unfailed needs unchanged =
       refused_in e reply refused.0 refused.1 row unfailed unchanged
   refuses_handled e (Err Device) refused row unfailed needs unchanged = absurd refused
@@ -224,13 +229,16 @@ module _ (laws : StorageLaws) (texts : TextLaw) (told : Bool) (app now : ℕ) (r
 
   -- as the call on the storage was answered
   pub local_handled : (given : Result Answer PerError) (result : Result Reply Stop) → TellsAnswer given result
-      → IfOk given (λ a. in_session (config_in o) now (session_in o) c ≡ Ok (a, session_in later)) → IfOk given HasText
+      → IfOk given (λ a. in_session (config_in o) now (session_in o) c ≡ Ok (a, session_in later))
+      → IfOk given HasText
       → IfErr given (λ e. IsRefusal (in_session (config_in o) now (session_in o) c) e)
       → IfErr given (λ e. e ≢ error.PhysicalStorageFailure)
       → IfErr given (λ e. e ≡ error.OutOfMemory → NeedsMemory (in_session (config_in o) now (session_in o) c))
-      → OnErr given (session_in later ≡ session_in o) → IsStorageCallHandled told app now root c was is m m Same result
+      → OnErr given (session_in later ≡ session_in o)
+      → IsStorageCallHandled (resting_at told app now root) c (on_disk was m) (on_disk is m) Same result
   local_handled (Ok a) result settles row text refused unfailed needs unchanged =
-      subst (λ (r : Result Reply Stop). IsStorageCallHandled told app now root c was is m m Same r) (sym settles)
+      subst (λ (r : Result Reply Stop). IsStorageCallHandled (resting_at told app now root) c (on_disk was m)
+      (on_disk is m) Same r) (sym settles)
       (answered_handled a (record { reports = []; answer = a }) refl row text)
   local_handled (Err e) result settles row text refused unfailed needs unchanged =
       refuses_handled e result settles refused unfailed needs unchanged

@@ -43,9 +43,10 @@ use Rattle.run_model.specs.Steps.{found_named, uses_device}
 use Rattle.run_model.specs.Found.{FoundStorage, shape_in, storage_in, with_storage_state}
 use Rattle.run_model.specs.Sessions.{Session, session_of}
 use Rattle.run_model.specs.Worlds.{Application, at_rest}
+use Rattle.per_runtime.specs.Served.{on_disk}
 use Rattle.per_runtime.specs.storages.Durables.{IsSet, IsShown}
 use Rattle.per_runtime.specs.storages.Finding.{IsEarly, IsLocated, config_of, found_on, shape_at}
-use Rattle.per_runtime.specs.storages.Handled.{CostsNamed, IsStorageCallHandled, MayWrite, StaysInPlace}
+use Rattle.per_runtime.specs.storages.Handled.{CostsNamed, IsStorageCallHandled, MayWrite, StaysInPlace, resting_at}
 use Rattle.per_runtime.specs.storages.Handled.{StaysUnlessFound}
 use Rattle.per_runtime.specs.storages.Openings.{corrupt_reply, open_call}
 use Rattle.per_runtime.specs.storages.Slots.{IsOpenAt, IsResting, resting_with, slot_at}
@@ -67,7 +68,8 @@ seen_by (Corrupt salvage others) shape config o reported is = absurd is
 
 corrupt_by : (state : State) (shape : Shape) (config : StorageData) (report : Report)
     → IsOpeningOf state shape config (given.Corrupt report)
-    → (salvage : Option View) × (others : List View) × (state ≡ Corrupt salvage others) × (report ≡ failed_report shape)
+    → (salvage : Option View) × (others : List View) × (state ≡ Corrupt salvage others)
+    × (report ≡ failed_report shape)
 corrupt_by (Opens v others) shape config report is = absurd is
 corrupt_by (Corrupt salvage others) shape config report is = (salvage, others, refl, is)
 
@@ -77,7 +79,8 @@ pub opened_costs : (old new : Medium) (l : Located) (sh : Shape) → sh ≡ shap
     → new.written ≤ old.written + mending_cost (config_of l).n (opened_of (store_at old.image (shape_at l)))
 opened_costs old new l sh same copies le = subst (λ (n : ℕ).
     new.written ≤ old.written + mending_cost n (opened_of (store_at old.image (shape_at l)))) copies
-    (subst (λ (s : Shape). new.written ≤ old.written + mending_cost sh.place.copies (opened_of (store_at old.image s)))
+    (subst (λ (s : Shape). new.written ≤ old.written + mending_cost sh.place.copies
+    (opened_of (store_at old.image s)))
     same le)
 
 open_costs : (app now : ℕ) (f : FoundStorage) (s : Option Session) (kind : StoreKind) (name : List ℕ)
@@ -96,13 +99,15 @@ none_of (Some x) is = absurd (true≢false is)
 -- whether its slot is taken, whether its session is open
 pub session_there : (image : Image) (app : ℕ) (slots : OpenSlots) (n : ℕ)
     → is_some (session_at (resting_with image app slots) n) ≡ is_some (slot_at slots n)
-session_there image app slots n = ap is_some (session_slot image app slots n) ∙ is_some_map session_in (slot_at slots n)
+session_there image app slots n = ap is_some (session_slot image app slots n) ∙ is_some_map session_in
+    (slot_at slots n)
 
 -- it is refused because it is open, before any call of the disk
 pub is_early_busy : (name : List ℕ) → IsEarly (error.ResourceBusy (holder.Storage name))
 is_early_busy name = record { no_failure = λ e. absurd cc; no_want = λ e. absurd cc }
 
-module _ (laws : StorageLaws) (told : Bool) (app now : ℕ) (root : Root) (kind : StoreKind) (name : List ℕ) (was : OpenSlots)
+module _ (laws : StorageLaws) (told : Bool) (app now : ℕ) (root : Root) (kind : StoreKind) (name : List ℕ)
+    (was : OpenSlots)
     (old : Medium) (l : Located)
     (located : IsLocated app (root_says root) l) (resting : IsResting told old.image app root was)
     (found : (image : Image) → IsRootOn image app root → storage_in (app_at image app) name (Some kind)
@@ -120,7 +125,8 @@ module _ (laws : StorageLaws) (told : Bool) (app now : ℕ) (root : Root) (kind 
   found_here tells = found old.image (resting.root_at.disk tells)
 
   row : IsTrue told → app_step app before now (open_call kind name) ≡ Ok (storage_opened app before f f.state)
-  row tells = open_row app now before kind name f (found_here tells) (session_there old.image app was l.number ∙ closed)
+  row tells = open_row app now before kind name f (found_here tells)
+      (session_there old.image app was l.number ∙ closed)
 
   -- its shape, as the row has it
   shape_same : shape_in app f ≡ shape_at l
@@ -164,7 +170,8 @@ module _ (laws : StorageLaws) (told : Bool) (app now : ℕ) (root : Root) (kind 
     -- the device failed, or memory ran out
     pub open_failed : (stop : Stop) → (stop ≡ Device → Rose old.faults new.faults)
         → (stop ≡ OutOfMemory → new.faults ≡ old.faults)
-        → IsStorageCallHandled told app now root (open_call kind name) was was old new Same (Err stop)
+        → IsStorageCallHandled (resting_at told app now root) (open_call kind name) (on_disk was old)
+        (on_disk was new) Same (Err stop)
     open_failed Device rose fed = record {
       ends = lost laws told app now root (open_call kind name) was was old new l located resting
           (store_at old.image (shape_at l)) (storing (store_at old.image (shape_at l)))
@@ -183,7 +190,8 @@ module _ (laws : StorageLaws) (told : Bool) (app now : ℕ) (root : Root) (kind 
         fed refl,
         stopped laws told app now root (open_call kind name) was was old new l located resting
             (store_at old.image (shape_at l)) (storing (store_at old.image (shape_at l)))
-            (λ tells. inl (open_reaches app now before kind name (storage_opened app before f f.state) refl (row tells)))
+            (λ tells. inl (open_reaches app now before kind name (storage_opened app before f f.state) refl
+            (row tells)))
             (λ tells. inl (same_app tells)),
       );
       idle = never_idle;
@@ -200,11 +208,13 @@ module _ (laws : StorageLaws) (told : Bool) (app now : ℕ) (root : Root) (kind 
         → (IsTrue told → IsOpeningOf (store_at old.image (shape_at l)) (shape_at l) (config_of l)
         (given.Corrupt report))
         → (reply : Reply) → reply ≡ corrupt_reply (config_of l).name report
-        → IsStorageCallHandled told app now root (open_call kind name) was was old new Same (Ok reply)
+        → IsStorageCallHandled (resting_at told app now root) (open_call kind name) (on_disk was old)
+        (on_disk was new) Same (Ok reply)
     open_corrupt report untouched quiet passes opening reply says = record {
       ends = record {
         answered = λ tells.
-            let seen = corrupt_by (store_at old.image (shape_at l)) (shape_at l) (config_of l) report (opening tells) in
+            let seen = corrupt_by (store_at old.image (shape_at l)) (shape_at l) (config_of l) report (opening tells)
+            in
             answered_so laws told app now root (open_call kind name) was was old new l located resting
             (store_at old.image (shape_at l)) (storing (store_at old.image (shape_at l)))
             tells (ap (λ (i : Image). store_at i (shape_at l)) untouched.0) reply before
@@ -237,7 +247,8 @@ module _ (laws : StorageLaws) (told : Bool) (app now : ℕ) (root : Root) (kind 
         → (IsTrue told → IsOpeningOf (store_at old.image (shape_at l)) (shape_at l) (config_of l)
         (given.Opened o reported))
         → (reply : Reply) → reply ≡ record { reports = reported.items; answer = answer.Done }
-        → IsStorageCallHandled told app now root (open_call kind name) was is old new Same (Ok reply)
+        → IsStorageCallHandled (resting_at told app now root) (open_call kind name) (on_disk was old)
+        (on_disk is new) Same (Ok reply)
     open_opened o reported is placed used shown quiet passes set clean opening reply says = record {
       ends = record {
         answered = λ tells.

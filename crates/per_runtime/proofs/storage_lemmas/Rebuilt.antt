@@ -43,13 +43,14 @@ use Rattle.run_model.specs.Costs.{storage_cost}
 use Rattle.run_model.specs.Found.{FoundStorage, storage_in, with_storage_state}
 use Rattle.run_model.specs.Runtimes.{IsUnwritten, is_durable, is_refusal}
 use Rattle.run_model.specs.Steps.{found_named, reaches_device, uses_device}
-use Rattle.run_model.specs.Worlds.{Application}
+use Rattle.run_model.specs.Worlds.{Application, application_at}
 use Rattle.open_storages.specs.declared.opens.Open.{Open}
 use Rattle.open_storages.specs.Opens.{session_in}
+use Rattle.per_runtime.specs.Served.{on_disk}
 use Rattle.per_runtime.specs.storages.Answers.{IsStorageCallAnswered, StorageCallMayLead}
 use Rattle.per_runtime.specs.storages.Durables.{IsSet, RepliesDone, done_or}
 use Rattle.per_runtime.specs.storages.Finding.{IsEarly, IsLocated, config_of, found_on, shape_at}
-use Rattle.per_runtime.specs.storages.Handled.{CostsNamed, IsStorageCallHandled, MayWrite, StaysInPlace}
+use Rattle.per_runtime.specs.storages.Handled.{CostsNamed, IsStorageCallHandled, MayWrite, StaysInPlace, resting_at}
 use Rattle.per_runtime.specs.storages.Handled.{StaysUnlessFound}
 use Rattle.per_runtime.specs.storages.Slots.{IsResting, resting_with, slot_at}
 use Rattle.per_runtime.specs.storages.StorageLaws.{StorageLaws}
@@ -70,7 +71,8 @@ pub record Rebuilds (told : Bool) (shape : Shape) (row : State → Result State 
       × AnswersRow refused (row state))
   pub state : IsTrue told → OnOk result (store_at new.image shape
       ≡ after_state (store_at old.image shape) (row (store_at old.image shape)))
-  pub unchanged : IfOk result (λ refused. (refused ≡ None → ⊥) → (new.image ≡ old.image) × (new.written ≡ old.written))
+  pub unchanged : IfOk result (λ refused. (refused ≡ None → ⊥) → (new.image ≡ old.image)
+      × (new.written ≡ old.written))
   pub clean : IsTrue told → IfOk result (λ refused. (refused ≡ None) ⊎ IsClean shape old.image
       → IsClean shape new.image)
   pub quiet : OnOk result (Quiet new)
@@ -129,7 +131,8 @@ resetting_early s now state e is = rebuilding_early (initial_contents s cause.Re
 
 -- ---- the call
 
-module _ (laws : StorageLaws) (texts : TextLaw) (told : Bool) (app now : ℕ) (root : Root) (was : OpenSlots) (old : Medium)
+module _ (laws : StorageLaws) (texts : TextLaw) (told : Bool) (app now : ℕ) (root : Root) (was : OpenSlots)
+    (old : Medium)
     (resting : IsResting told old.image app root was) (l : Located) (located : IsLocated app (root_says root) l)
     (none : slot_at was l.number ≡ None)
     (c : Call) (row : State → Result State PerError) where
@@ -188,20 +191,23 @@ module _ (laws : StorageLaws) (texts : TextLaw) (told : Bool) (app now : ℕ) (r
     row_at answer_is is tells = is_row tells ∙ ap (λ (r : Result State PerError). r >>= λ state.
         Ok (answered answer.Done (after state))) is
 
-    leads : IsTrue told → StorageCallMayLead app now c before (with_storage_state (app_at old.image app) f next)
+    leads : IsTrue told → StorageCallMayLead (application_at app now before) c
+        (with_storage_state (app_at old.image app) f next)
     leads tells = by (row f.state) refl
       where
         by : (answer_is : Result State PerError) → row f.state ≡ answer_is
-            → StorageCallMayLead app now c before (with_storage_state (app_at old.image app) f
+            → StorageCallMayLead (application_at app now before) c (with_storage_state (app_at old.image app) f
             (after_state f.state answer_is))
         by (Ok state) is = inr (sym (ap (λ (x : Result Outcome PerError). (concluded before x).1.disk)
             (row_at (Ok state) is tells)))
         by (Err e) is = inl (stays_so laws app root l located told tells old.image resting.root_at)
 
-    pub rebuilt_err : (e : Stop) → result ≡ Err e → IsStorageCallHandled told app now root c was was old new Same
+    pub rebuilt_err : (e : Stop) → result ≡ Err e
+        → IsStorageCallHandled (resting_at told app now root) c (on_disk was old) (on_disk was new) Same
         (Err e)
     rebuilt_err Device err = record {
-      ends = lost laws told app now root c was was old new l located resting next storing reaches leads named same_slot
+      ends = lost laws told app now root c was was old new l located resting next storing reaches leads named
+          same_slot
           (rebuilds.cause err);
       idle = idle;
       written = written;
@@ -239,7 +245,7 @@ module _ (laws : StorageLaws) (texts : TextLaw) (told : Bool) (app now : ℕ) (r
         by (Err g) at_row so = early_same g e (early state g at_row) so
 
     pub rebuilt_ok : (refused : Option PerError) → result ≡ Ok refused → (reply : Reply) → RepliesDone reply refused
-        → IsStorageCallHandled told app now root c was was old new Same (Ok reply)
+        → IsStorageCallHandled (resting_at told app now root) c (on_disk was old) (on_disk was new) Same (Ok reply)
     rebuilt_ok refused ok reply says = record {
       ends = record {
         answered = λ tells. by refused refl (row f.state) refl tells;
@@ -268,7 +274,8 @@ module _ (laws : StorageLaws) (texts : TextLaw) (told : Bool) (app now : ℕ) (r
         answers tells = subst (λ (s : State). AnswersRow refused (row s)) (sym (given.1 tells)) given.2
 
         state_is : IsTrue told → store_at new.image (shape_at l) ≡ next
-        state_is tells = subst (λ (r : Result (Option PerError) Stop). OnOk r (store_at new.image (shape_at l) ≡ next))
+        state_is tells = subst
+            (λ (r : Result (Option PerError) Stop). OnOk r (store_at new.image (shape_at l) ≡ next))
             ok (rebuilds.state tells)
 
         clean_is : IsTrue told → IsClean (shape_at l) old.image → IsClean (shape_at l) new.image
@@ -291,8 +298,10 @@ module _ (laws : StorageLaws) (texts : TextLaw) (told : Bool) (app now : ℕ) (r
 
         by : (r : Option PerError) → r ≡ refused → (answer_is : Result State PerError) → row f.state ≡ answer_is
             → (tells : IsTrue told)
-            → IsStorageCallAnswered app now c before (resting_with new.image app was) reply old new
-        by None is (Ok state) at_row tells = answered_so laws told app now root c was was old new l located resting next
+            → IsStorageCallAnswered (application_at app now before) c (reply, (resting_with new.image app was)) old
+            new
+        by None is (Ok state) at_row tells = answered_so laws told app now root c was was old new l located resting
+            next
             storing tells (state_is tells) reply (after state)
             (done_row None is state refl at_row tells) (ap (λ (s : State). with_storage_state
             (app_at old.image app) f s)
@@ -306,7 +315,8 @@ module _ (laws : StorageLaws) (texts : TextLaw) (told : Bool) (app now : ℕ) (r
             (refused_so e g (sym is) (subst (λ (r : Result State PerError). AnswersRow (Some e) r) at_row
             (subst (λ (o : Option PerError). AnswersRow o (row f.state)) (sym is) (answers tells))) at_row tells)
             (sym (stays_so laws app root l located told tells old.image resting.root_at)
-            ∙ ap (λ (s : State). with_storage_state (app_at old.image app) f s) (sym (ap (after_state f.state) at_row)))
+            ∙ ap (λ (s : State). with_storage_state (app_at old.image app) f s)
+            (sym (ap (after_state f.state) at_row)))
             refl refl (clean_is tells)
 
         unwritten_by : (r : Option PerError) → r ≡ refused → is_refusal reply.answer ≡ true → IsUnwritten old new
@@ -318,7 +328,8 @@ module _ (laws : StorageLaws) (texts : TextLaw) (told : Bool) (app now : ℕ) (r
             rebuilds.unchanged
             (λ at_none. some_none e (is ∙ at_none))
 
-        unfailed_by : (r : Option PerError) → r ≡ refused → done_or refused ≡ answer.Error error.PhysicalStorageFailure
+        unfailed_by : (r : Option PerError) → r ≡ refused → done_or refused
+            ≡ answer.Error error.PhysicalStorageFailure
             → ⊥
         unfailed_by None is failed = done_failed (ap done_or is ∙ failed)
         unfailed_by (Some e) is failed = (refusal_early refused e (sym is) given.0 given.2).no_failure
@@ -356,7 +367,8 @@ none_is None is = refl
 none_is (Some x) is = absurd cc
 
 pub busy_closed : (image : Image) (app : ℕ) (slots : OpenSlots) (name : List ℕ)
-    (state_of : FoundStorage → Result State PerError) (f : FoundStorage) → storage_in (app_at image app) name None ≡ Ok f
+    (state_of : FoundStorage → Result State PerError) (f : FoundStorage) → storage_in (app_at image app) name None
+    ≡ Ok f
     → is_some (slot_at slots f.number) ≡ true → rebuild_step (resting_with image app slots) name state_of
     ≡ Err (error.ResourceBusy (holder.Storage f.config.name))
 busy_closed image app slots name state_of f found there =

@@ -43,9 +43,10 @@ use Rattle.run_model.specs.Found.{FoundStorage, shape_in, storage_in, with_stora
 use Rattle.run_model.specs.Sessions.{Session, keys, files, made_durable, seen_of, synced_in_session}
 use Rattle.run_model.specs.Steps.{found_named, reaches_device, uses_device}
 use Rattle.run_model.specs.Worlds.{Application}
+use Rattle.per_runtime.specs.Served.{on_disk}
 use Rattle.per_runtime.specs.storages.Durables.{IsPutBack, IsSet}
 use Rattle.per_runtime.specs.storages.Finding.{IsEarly, IsLocated, found_on, shape_at}
-use Rattle.per_runtime.specs.storages.Handled.{CostsNamed, IsStorageCallHandled, MayWrite}
+use Rattle.per_runtime.specs.storages.Handled.{CostsNamed, IsStorageCallHandled, MayWrite, resting_at}
 use Rattle.per_runtime.specs.storages.Slots.{IsOpenAt, IsResting, resting_with, sessions_in, slot_at}
 use Rattle.per_runtime.specs.storages.StorageLaws.{StorageLaws}
 use Rattle.per_runtime.specs.declared.storages.finding.Located.{Located}
@@ -112,7 +113,8 @@ flush_early storage h e is = first_early (error_of (may_flush (session_in storag
 
 -- ---- the calls
 
-module _ (laws : StorageLaws) (texts : TextLaw) (told : Bool) (app now : ℕ) (root : Root) (was : OpenSlots) (old : Medium)
+module _ (laws : StorageLaws) (texts : TextLaw) (told : Bool) (app now : ℕ) (root : Root) (was : OpenSlots)
+    (old : Medium)
     (law : IsLawful told old)
     (resting : IsResting told old.image app root was) (l : Located) (located : IsLocated app (root_says root) l)
     (storage : Open) (there_is : slot_at was l.number ≡ Some storage) where
@@ -134,7 +136,8 @@ module _ (laws : StorageLaws) (texts : TextLaw) (told : Bool) (app now : ℕ) (r
 
   shaped : (refused : Option PerError) → refused_by {A = Outcome} refused
       (Ok (answered answer.Done (after_by (shape_in app f)))) ≡ refused_by refused (Ok (answered answer.Done after))
-  shaped refused = ap (λ (shape : Shape). refused_by {A = Outcome} refused (Ok (answered answer.Done (after_by shape))))
+  shaped refused = ap (λ (shape : Shape). refused_by {A = Outcome} refused
+      (Ok (answered answer.Done (after_by shape))))
       (shape_in_is laws texts told app now root was old resting l located storage there_is)
 
   module _ (c : Call) (refused : Option PerError) (row : IsTrue told
@@ -168,8 +171,9 @@ module _ (laws : StorageLaws) (texts : TextLaw) (told : Bool) (app now : ℕ) (r
 
     -- it stopped
     pub made_err : (is : OpenSlots) → IsSet l.number None was is → (e : Stop) → result ≡ Err e
-        → IsStorageCallHandled told app now root c was is old new Same (Err e)
-    made_err is emptied e err = stopped_handled laws texts told app now root was old resting l located storage there_is
+        → IsStorageCallHandled (resting_at told app now root) c (on_disk was old) (on_disk is new) Same (Err e)
+    made_err is emptied e err = stopped_handled laws texts told app now root was old resting l located storage
+        there_is
         c refused after refl refl row named reaches
         new Same idle written costs storing is emptied e
         (err_not_due told storage refused old new Same result e makes err)
@@ -177,12 +181,14 @@ module _ (laws : StorageLaws) (texts : TextLaw) (told : Bool) (app now : ℕ) (r
         (λ starved. makes.fed (err ∙ ap (λ (x : Stop). Err x) starved))
 
     -- it was answered
-    pub made_ok : (made : Durable) → result ≡ Ok made → (mid is : OpenSlots) → IsSet l.number None was mid → (reply : Reply)
+    pub made_ok : (made : Durable) → result ≡ Ok made → (mid is : OpenSlots) → IsSet l.number None was mid
+        → (reply : Reply)
         → IsPutBack l.number made mid is reply
-        → IsStorageCallHandled told app now root c was is old new Same (Ok reply)
+        → IsStorageCallHandled (resting_at told app now root) c (on_disk was old) (on_disk is new) Same (Ok reply)
     made_ok (made.Done later) ok mid is emptied reply (shown, set, says) =
         let durable : (refused ≡ None) × IsMadeDurable told new.image storage later =
-        subst (λ (r : Result Durable Stop). IfOk r (IsDurableOrRefused told new.image storage refused)) ok makes.done in
+        subst (λ (r : Result Durable Stop). IfOk r (IsDurableOrRefused told new.image storage refused)) ok makes.done
+        in
         let is_at = at laws texts told app now root was old resting l located storage there_is in
         let shape = shape_there laws texts told app now root was old resting l located storage there_is in
         let set_there = set_over l.number (Some later) was mid is emptied set in
@@ -217,14 +223,17 @@ module _ (laws : StorageLaws) (texts : TextLaw) (told : Bool) (app now : ℕ) (r
         on_made m ok P on = subst (λ (r : Result Durable Stop). OnOk r P) ok on
     made_ok (made.Refused same e) ok mid is emptied reply (set, says) =
         let refusal : (refused ≡ Some e) × (same ≡ storage) =
-        subst (λ (r : Result Durable Stop). IfOk r (IsDurableOrRefused told new.image storage refused)) ok makes.done in
+        subst (λ (r : Result Durable Stop). IfOk r (IsDurableOrRefused told new.image storage refused)) ok makes.done
+        in
         let due = makes.due e refusal.0 in
         let back = put_back was is l.number storage there_is
         (set ∙ (ap (λ (o : Open). slice_set mid.open.items l.number (Some o)) refusal.1
         ∙ ap (λ (xs : List (Option Open)). slice_set xs l.number (Some storage)) emptied)) in
-        subst (λ (m : Medium). IsStorageCallHandled told app now root c was is old m Same (Ok reply))
+        subst (λ (m : Medium). IsStorageCallHandled (resting_at told app now root) c (on_disk was old) (on_disk is m)
+        Same (Ok reply))
         (sym (by_disk due.1))
-        (early_handled laws told app now root c was old Same due.1 law resting texts is back e (early e refusal.0) reply
+        (early_handled laws told app now root c was old Same due.1 law resting texts is back e (early e refusal.0)
+        reply
         says
         (row_err laws texts told app now root was old resting l located storage there_is c refused after refl refl row
         named reaches e refusal.0))

@@ -5,9 +5,10 @@ use Rattle.deploy_laws.specs.Apps.{app_at}
 use Rattle.deploy.specs.Building.{StagedAt, staged_progress}
 use Rattle.open_storages.specs.declared.opens.Open.{Open}
 use Rattle.run_model.specs.Worlds as worlds
-use Rattle.run_model.specs.Worlds.{Application}
+use Rattle.run_model.specs.Worlds.{Application, ApplicationAt, application_at}
 use Rattle.run_model.specs.Runtimes as memory
 use Rattle.run_model.specs.OneApp.{as_app}
+use Rattle.per_runtime.specs.Served.{CallAt, OnDisk}
 use Rattle.per_runtime.specs.declared.storages.slots.OpenSlots.{OpenSlots}
 use Rattle.per_runtime.specs.storages.Slots.{IsResting, sessions_in}
 use Rattle.per_runtime.specs.declared.application.running.Running.{Running}
@@ -27,6 +28,10 @@ running_in r = record { stage = stage_in r.stage; sessions = sessions_in r.slots
 -- the application of the world: what is on the disk is what the image denotes
 abbrev pub application : Image → Running → Application
 application image r = as_app (app_at image r.app) (running_in r)
+
+-- the same at the moment of a call
+abbrev pub callee : CallAt → OnDisk Running → ApplicationAt
+callee c at = application_at at.held.app c.now (application at.disk.image at.held)
 
 -- no storage is open in any of the sixteen slots
 abbrev pub NoneOpen : OpenSlots → Type 0

@@ -21,7 +21,8 @@ use Rattle.run_model.specs.Found.{FoundStorage}
 use Rattle.run_model.specs.Runtimes.{IsUnwritten, WritesWithin, is_durable, is_refusal}
 use Rattle.run_model.specs.Sessions.{Session}
 use Rattle.run_model.specs.Steps.{found_named, uses_device}
-use Rattle.run_model.specs.Worlds.{Application}
+use Rattle.run_model.specs.Worlds.{Application, ApplicationAt, application_at}
+use Rattle.per_runtime.specs.Served.{OnDisk}
 use Rattle.per_runtime.specs.storages.Answers.{HasStorageCallFailed, HasStorageCallStopped, IsStorageCallAnswered}
 use Rattle.per_runtime.specs.storages.Slots.{IsResting, resting_with}
 use Rattle.per_runtime.specs.declared.storages.slots.OpenSlots.{OpenSlots}
@@ -45,43 +46,56 @@ StaysInPlace app c before old new = (f : FoundStorage) → found_named before c 
 abbrev pub StaysUnlessFound : Call → (before : Application) → (old new : Image) → Type 0
 StaysUnlessFound c before old new = (e : PerError) → found_named before c ≡ Some (Err e) → new ≡ old
 
+-- an application at rest that is called: whether the bytes of the disk are modelled, its number, the moment in seconds
+-- and its root
+pub record RestingAt : Type 0 where
+  pub told : Bool
+  pub app : ℕ
+  pub now : ℕ
+  pub root : Root
+
+abbrev pub resting_at : (told : Bool) → (app now : ℕ) → Root → RestingAt
+resting_at told app now root = record { told = told; app = app; now = now; root = root }
+
+-- with these slots on this disk
+abbrev pub rests_with : RestingAt → OnDisk OpenSlots → ApplicationAt
+rests_with r at = application_at r.app r.now (resting_with at.disk.image r.app at.held)
+
 -- the call was answered: no call of the disk failed
-pub record IsStorageCallReplied (told : Bool) (app now : ℕ) (root : Root) (c : Call) (was is : OpenSlots)
-    (old new : Medium) (reply : Reply) : Type 0 where
-  pub answered : IsTrue told → IsStorageCallAnswered app now c (resting_with old.image app was)
-      (resting_with new.image app is)
-      reply old new
-  pub memory : IsResting told new.image app root is
-  pub quiet : Quiet old → Quiet new
-  pub unwritten : is_refusal reply.answer ≡ true → IsUnwritten old new
-  pub unfailed : reply.answer ≢ answer.Error error.PhysicalStorageFailure
-  pub passes : new.faults ≡ old.faults
-  pub text : HasText reply.answer
+pub record IsStorageCallReplied (r : RestingAt) (c : Call) (before after : OnDisk OpenSlots) (reply : Reply) : Type 0
+  where
+    pub answered : IsTrue r.told → IsStorageCallAnswered (rests_with r before) c
+        (reply, (rests_with r after).application) before.disk after.disk
+    pub memory : IsResting r.told after.disk.image r.app r.root after.held
+    pub quiet : Quiet before.disk → Quiet after.disk
+    pub unwritten : is_refusal reply.answer ≡ true → IsUnwritten before.disk after.disk
+    pub unfailed : reply.answer ≢ answer.Error error.PhysicalStorageFailure
+    pub passes : after.disk.faults ≡ before.disk.faults
+    pub text : HasText reply.answer
 
 -- its device failed
-pub record IsLost (told : Bool) (app now : ℕ) (root : Root) (c : Call) (was is : OpenSlots) (old new : Medium) : Type 0
-  where
-    pub failed : IsTrue told → HasStorageCallFailed app now c (resting_with old.image app was)
-        (resting_with new.image app is) old
-        new
-    pub memory : IsResting told new.image app root is
-    pub cause : Rose old.faults new.faults
+pub record IsLost (r : RestingAt) (c : Call) (before after : OnDisk OpenSlots) : Type 0 where
+  pub failed : IsTrue r.told → HasStorageCallFailed (rests_with r before) c (rests_with r after).application
+      before.disk after.disk
+  pub memory : IsResting r.told after.disk.image r.app r.root after.held
+  pub cause : Rose before.disk.faults after.disk.faults
 
--- a call on a storage ended: it was answered, or the device failed, or memory ran out; from the slots `was` to `is`
-abbrev pub EndsSo : (told : Bool) (app now : ℕ) (root : Root) (c : Call) (was is : OpenSlots) (old new : Medium)
-    → Result Reply Stop → Type 0
-EndsSo told app now root c was is old new (Ok reply) = IsStorageCallReplied told app now root c was is old new reply
-EndsSo told app now root c was is old new (Err Device) = IsLost told app now root c was is old new
-EndsSo told app now root c was is old new (Err OutOfMemory) = (new.faults ≡ old.faults)
-    × (IsTrue told → HasStorageCallStopped app now c (resting_with old.image app was) old new)
+-- a call on a storage ended: it was answered, or the device failed, or memory ran out
+abbrev pub EndsSo : RestingAt → Call → (before after : OnDisk OpenSlots) → Result Reply Stop → Type 0
+EndsSo r c before after (Ok reply) = IsStorageCallReplied r c before after reply
+EndsSo r c before after (Err Device) = IsLost r c before after
+EndsSo r c before after (Err OutOfMemory) = (after.disk.faults ≡ before.disk.faults)
+    × (IsTrue r.told → HasStorageCallStopped (rests_with r before) c before.disk after.disk)
 
--- A call on a storage of an application at rest, from these slots to those; that it called no disk is said by `Same`.
-pub record IsStorageCallHandled (told : Bool) (app now : ℕ) (root : Root) (c : Call) (was is : OpenSlots)
-    (old new : Medium) (Same : Type 0) (result : Result Reply Stop) : Type 0 where
-  pub ends : EndsSo told app now root c was is old new result
-  pub idle : IsTrue told → uses_device (app_at old.image app) c ≡ false → Same
-  pub written : IsTrue told → MayWrite app c (resting_with old.image app was) old new
-  pub costs : IsTrue told → CostsNamed app now c (resting_with old.image app was) old new
-  pub place : IsTrue told → StaysInPlace app c (resting_with old.image app was) old.image new.image
-  pub missing : IsTrue told → StaysUnlessFound c (resting_with old.image app was) old.image new.image
-  pub time : Elapses old new
+-- A call on a storage of an application at rest; that it called no disk is said by `Same`.
+pub record IsStorageCallHandled (r : RestingAt) (c : Call) (before after : OnDisk OpenSlots) (Same : Type 0)
+    (result : Result Reply Stop) : Type 0 where
+  pub ends : EndsSo r c before after result
+  pub idle : IsTrue r.told → uses_device (app_at before.disk.image r.app) c ≡ false → Same
+  pub written : IsTrue r.told → MayWrite r.app c (rests_with r before).application before.disk after.disk
+  pub costs : IsTrue r.told → CostsNamed r.app r.now c (rests_with r before).application before.disk after.disk
+  pub place : IsTrue r.told
+      → StaysInPlace r.app c (rests_with r before).application before.disk.image after.disk.image
+  pub missing : IsTrue r.told
+      → StaysUnlessFound c (rests_with r before).application before.disk.image after.disk.image
+  pub time : Elapses before.disk after.disk

@@ -4,6 +4,7 @@ ghost use Rattle.std.specs.Prelude.{◌≡◌, ℕ, false};
 ghost use Rattle.command_text.specs.declared.calls.Call.{Call};
 ghost use Rattle.run_model.specs.Converters.{converters_of};
 ghost use Rattle.run_model.specs.Worlds.{at_rest, is_to_open};
+ghost use Rattle.per_runtime.specs.Served.{call_at, on_disk, terms};
 ghost use Rattle.per_runtime.specs.application.Promises.{Promises};
 ghost use Rattle.per_runtime.specs.application.Running.{IsRunning, stage_in};
 
@@ -29,9 +30,9 @@ impl Running {
     ) -> Result<Reply, Stop>
         requires memory { IsRunning D.told (D.medium disk.old).image self.old }
         requires opened { is_to_open (stage_in self.old.stage) ≡ false }
-        ensures { Promises D.told (converters_of migrations.now) now (Call.Install manifest.now)
-            self.old self.new
-            (disk.new ≡ disk.old) (D.medium disk.old) (D.medium disk.new) result }
+        ensures { Promises (terms D.told (converters_of migrations.now)) (call_at now (Call.Install manifest.now))
+            (on_disk self.old (D.medium disk.old))
+            (on_disk self.new (D.medium disk.new)) (disk.new ≡ disk.old) result }
     {
         rows_lead_on();
         rows_read_the_root();
@@ -53,9 +54,9 @@ impl Running {
     ) -> Result<Reply, Stop>
         requires memory { IsRunning D.told (D.medium disk.old).image self.old }
         requires rests { stage_in self.old.stage ≡ at_rest }
-        ensures { (now : ℕ) → Promises D.told (converters_of migrations.now) now Call.Finish
-            self.old self.new
-            (disk.new ≡ disk.old) (D.medium disk.old) (D.medium disk.new) result }
+        ensures { (now : ℕ) → Promises (terms D.told (converters_of migrations.now)) (call_at now Call.Finish)
+            (on_disk self.old (D.medium disk.old))
+            (on_disk self.new (D.medium disk.new)) (disk.new ≡ disk.old) result }
     {
         rows_lead_on();
         rows_read_the_root();
@@ -75,9 +76,9 @@ impl Running {
     ) -> Result<Reply, Stop>
         requires memory { IsRunning D.told (D.medium disk.old).image self.old }
         requires rests { stage_in self.old.stage ≡ at_rest }
-        ensures { (now : ℕ) → Promises D.told (converters_of migrations.now) now Call.Rollback
-            self.old self.new
-            (disk.new ≡ disk.old) (D.medium disk.old) (D.medium disk.new) result }
+        ensures { (now : ℕ) → Promises (terms D.told (converters_of migrations.now)) (call_at now Call.Rollback)
+            (on_disk self.old (D.medium disk.old))
+            (on_disk self.new (D.medium disk.new)) (disk.new ≡ disk.old) result }
     {
         rows_lead_on();
         rows_read_the_root();
@@ -100,9 +101,9 @@ impl Running {
     ) -> Result<Reply, Stop>
         requires memory { IsRunning D.told (D.medium disk.old).image self.old }
         requires rests { stage_in self.old.stage ≡ at_rest }
-        ensures { (now : ℕ) → Promises D.told (converters_of migrations.now) now Call.Wipe
-            self.old self.new
-            (disk.new ≡ disk.old) (D.medium disk.old) (D.medium disk.new) result }
+        ensures { (now : ℕ) → Promises (terms D.told (converters_of migrations.now)) (call_at now Call.Wipe)
+            (on_disk self.old (D.medium disk.old))
+            (on_disk self.new (D.medium disk.new)) (disk.new ≡ disk.old) result }
     {
         rows_lead_on();
         rows_read_the_root();

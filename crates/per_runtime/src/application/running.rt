@@ -18,6 +18,7 @@ ghost use Rattle.run_model.specs.Steps.{calls_device};
 ghost use Rattle.run_model.specs.Turns.{bytes_now};
 ghost use Rattle.run_model.specs.Worlds.{at_rest, is_to_open, none_open, to_open, update_in};
 ghost use Rattle.run_model.specs.Writes.{NeedsNothing};
+ghost use Rattle.per_runtime.specs.Served.{call_at, on_disk, terms};
 ghost use Rattle.per_runtime.specs.Sorting.{asked_call, deploying_call};
 ghost use Rattle.per_runtime.specs.storages.Answers.{CallsTo};
 ghost use Rattle.per_runtime.specs.application.Promises.{Promises};
@@ -155,9 +156,9 @@ impl Running {
     ) -> Result<Reply, Stop>
         requires memory { IsRunning D.told (D.medium disk.old).image self.old }
         requires opened { is_to_open (stage_in self.old.stage) ≡ false }
-        ensures { Promises D.told (converters_of migrations.now) now (asked_call asked.now)
-            self.old self.new
-            (disk.new ≡ disk.old) (D.medium disk.old) (D.medium disk.new) result }
+        ensures { Promises (terms D.told (converters_of migrations.now)) (call_at now (asked_call asked.now))
+            (on_disk self.old (D.medium disk.old))
+            (on_disk self.new (D.medium disk.new)) (disk.new ≡ disk.old) result }
     {
         untouched_stands();
         rows_lead_on();
@@ -192,9 +193,9 @@ impl Running {
         requires memory { IsRunning D.told (D.medium disk.old).image self.old }
         requires opened { is_to_open (stage_in self.old.stage) ≡ false }
         requires free { beside_update (update_in (stage_in self.old.stage)) (deploying_call deploying.now) ≡ None }
-        ensures { Promises D.told (converters_of migrations.now) now
-            (deploying_call deploying.now) self.old self.new
-            (disk.new ≡ disk.old) (D.medium disk.old) (D.medium disk.new) result }
+        ensures { Promises (terms D.told (converters_of migrations.now)) (call_at now (deploying_call deploying.now))
+            (on_disk self.old (D.medium disk.old))
+            (on_disk self.new (D.medium disk.new)) (disk.new ≡ disk.old) result }
     {
         untouched_stands();
         roots_in_use();

@@ -4,6 +4,7 @@ ghost use Rattle.std.specs.Prelude.{◌≡◌, ℕ, false, length};
 ghost use Rattle.command_text.specs.declared.calls.Call.{Call};
 ghost use Rattle.run_model.specs.Converters.{converters_of};
 ghost use Rattle.run_model.specs.Worlds.{at_rest, is_to_open};
+ghost use Rattle.per_runtime.specs.Served.{call_at, on_disk, terms};
 ghost use Rattle.per_runtime.specs.application.Promises.{Promises};
 ghost use Rattle.per_runtime.specs.application.Running.{IsRunning, stage_in};
 ghost use Rattle.per_runtime.specs.application.Stages.{Aborts, ConcludesBegun, staged_in};
@@ -28,9 +29,9 @@ impl Running {
     ) -> Result<Reply, Stop>
         requires memory { IsRunning D.told (D.medium disk.old).image self.old }
         requires rests { stage_in self.old.stage ≡ at_rest }
-        ensures { Promises D.told (converters_of migrations.now) now (Call.Update manifest.now)
-            self.old self.new
-            (disk.new ≡ disk.old) (D.medium disk.old) (D.medium disk.new) result }
+        ensures { Promises (terms D.told (converters_of migrations.now)) (call_at now (Call.Update manifest.now))
+            (on_disk self.old (D.medium disk.old))
+            (on_disk self.new (D.medium disk.new)) (disk.new ≡ disk.old) result }
     {
         rows_lead_on();
         rows_read_the_root();
@@ -64,9 +65,9 @@ impl Running {
     ) -> Result<Reply, Stop>
         requires memory { IsRunning D.told (D.medium disk.old).image self.old }
         requires rests { stage_in self.old.stage ≡ at_rest }
-        ensures { Promises D.told (converters_of migrations.now) now
-            (Call.UpdateBegin manifest.now) self.old self.new
-            (disk.new ≡ disk.old) (D.medium disk.old) (D.medium disk.new) result }
+        ensures { Promises (terms D.told (converters_of migrations.now)) (call_at now (Call.UpdateBegin manifest.now))
+            (on_disk self.old (D.medium disk.old))
+            (on_disk self.new (D.medium disk.new)) (disk.new ≡ disk.old) result }
     {
         rows_lead_on();
         rows_read_the_root();
@@ -120,9 +121,9 @@ impl Running {
     ) -> Result<Reply, Stop>
         requires memory { IsRunning D.told (D.medium disk.old).image self.old }
         requires opened { is_to_open (stage_in self.old.stage) ≡ false }
-        ensures { (now : ℕ) → Promises D.told (converters_of migrations.now) now Call.UpdateNext
-            self.old self.new
-            (disk.new ≡ disk.old) (D.medium disk.old) (D.medium disk.new) result }
+        ensures { (now : ℕ) → Promises (terms D.told (converters_of migrations.now)) (call_at now Call.UpdateNext)
+            (on_disk self.old (D.medium disk.old))
+            (on_disk self.new (D.medium disk.new)) (disk.new ≡ disk.old) result }
     {
         roots_in_use();
         untouched_stands();
@@ -143,9 +144,9 @@ impl Running {
     ) -> Result<Reply, Stop>
         requires memory { IsRunning D.told (D.medium disk.old).image self.old }
         requires opened { is_to_open (stage_in self.old.stage) ≡ false }
-        ensures { (now : ℕ) → Promises D.told (converters_of migrations.now) now
-            Call.UpdateCommit self.old self.new
-            (disk.new ≡ disk.old) (D.medium disk.old) (D.medium disk.new) result }
+        ensures { (now : ℕ) → Promises (terms D.told (converters_of migrations.now)) (call_at now Call.UpdateCommit)
+            (on_disk self.old (D.medium disk.old))
+            (on_disk self.new (D.medium disk.new)) (disk.new ≡ disk.old) result }
     {
         rows_lead_on();
         roots_in_use();

@@ -1,8 +1,9 @@
 //! A call that names a storage.
 
 ghost use Rattle.std.specs.Prelude.{◌≡◌};
+ghost use Rattle.per_runtime.specs.Served.{on_disk};
 ghost use Rattle.per_runtime.specs.Sorting.{storing_call};
-ghost use Rattle.per_runtime.specs.storages.Handled.{IsStorageCallHandled};
+ghost use Rattle.per_runtime.specs.storages.Handled.{IsStorageCallHandled, resting_at};
 ghost use Rattle.per_runtime.specs.storages.Slots.{IsResting};
 
 use crate::sorting::Storing;
@@ -28,8 +29,9 @@ impl OpenSlots {
         storing: &Storing,
     ) -> Result<Reply, Stop>
         requires memory { IsResting D.told (D.medium disk.old).image app root.now self.old }
-        ensures { IsStorageCallHandled D.told app now root.now (storing_call storing.now) self.old self.new
-            (D.medium disk.old) (D.medium disk.new) (disk.new ≡ disk.old) result }
+        ensures { IsStorageCallHandled (resting_at D.told app now root.now) (storing_call storing.now)
+            (on_disk self.old (D.medium disk.old))
+            (on_disk self.new (D.medium disk.new)) (disk.new ≡ disk.old) result }
     {
         match *storing {
             Storing::Open(name, kind) => self.open(alloc, disk, app, root, name, kind),

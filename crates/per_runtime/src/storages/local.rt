@@ -1,7 +1,8 @@
 //! The calls on an open storage that touch no disk.
 
 ghost use Rattle.std.specs.Prelude.{◌≡◌};
-ghost use Rattle.per_runtime.specs.storages.Handled.{IsStorageCallHandled};
+ghost use Rattle.per_runtime.specs.Served.{on_disk};
+ghost use Rattle.per_runtime.specs.storages.Handled.{IsStorageCallHandled, resting_at};
 ghost use Rattle.per_runtime.specs.storages.Openings.{TellsRefusal, TellsAnswer};
 ghost use Rattle.per_runtime.specs.storages.Slots.{IsResting};
 
@@ -35,8 +36,9 @@ impl OpenSlots {
         local: &LocalCall,
     ) -> Result<Reply, Stop>
         requires { IsResting D.told (D.medium disk.now).image app root.now self.old }
-        ensures { IsStorageCallHandled D.told app now root.now local.now.call.now self.old self.new
-            (D.medium disk.now) (D.medium disk.now) (disk.now ≡ disk.now) result }
+        ensures { IsStorageCallHandled (resting_at D.told app now root.now) local.now.call.now
+            (on_disk self.old (D.medium disk.now))
+            (on_disk self.new (D.medium disk.now)) (disk.now ≡ disk.now) result }
     {
         storages_stand();
         errors_have_texts();

@@ -1,7 +1,8 @@
 //! Opening a storage.
 
 ghost use Rattle.std.specs.Prelude.{◌≡◌, ℕ, IfOk};
-ghost use Rattle.per_runtime.specs.storages.Handled.{IsStorageCallHandled};
+ghost use Rattle.per_runtime.specs.Served.{on_disk};
+ghost use Rattle.per_runtime.specs.storages.Handled.{IsStorageCallHandled, resting_at};
 ghost use Rattle.per_runtime.specs.storages.Openings.{corrupt_reply, open_call};
 ghost use Rattle.per_runtime.specs.storages.Slots.{IsResting};
 
@@ -38,8 +39,9 @@ impl OpenSlots {
         kind: StoreKind,
     ) -> Result<Reply, Stop>
         requires { IsResting D.told (D.medium disk.old).image app root.now self.old }
-        ensures { (now : ℕ) → IsStorageCallHandled D.told app now root.now (open_call kind name.now) self.old self.new
-            (D.medium disk.old) (D.medium disk.new) (disk.new ≡ disk.old) result }
+        ensures { (now : ℕ) → IsStorageCallHandled (resting_at D.told app now root.now) (open_call kind name.now)
+            (on_disk self.old (D.medium disk.old))
+            (on_disk self.new (D.medium disk.new)) (disk.new ≡ disk.old) result }
     {
         storages_stand();
         errors_have_texts();

@@ -3,7 +3,8 @@
 ghost use Rattle.std.specs.Prelude.{◌≡◌, ◌<◌, IfErr, IfOk, OnErr};
 ghost use Rattle.command_text.specs.declared.calls.Call.{Call};
 ghost use Rattle.deploy.specs.Roots.{IsRootOf};
-ghost use Rattle.per_runtime.specs.storages.Handled.{IsStorageCallHandled};
+ghost use Rattle.per_runtime.specs.Served.{on_disk};
+ghost use Rattle.per_runtime.specs.storages.Handled.{IsStorageCallHandled, resting_at};
 ghost use Rattle.per_runtime.specs.storages.Rebuilding.{IsClosed, IsNoneClosed, NamesOpen};
 ghost use Rattle.per_runtime.specs.storages.Slots.{IsResting};
 
@@ -38,8 +39,9 @@ impl OpenSlots {
         name: &Name,
     ) -> Result<Reply, Stop>
         requires { IsResting D.told (D.medium disk.old).image app root.now self.old }
-        ensures { IsStorageCallHandled D.told app now root.now (Call.RecoverStorage name.now) self.old self.new
-            (D.medium disk.old) (D.medium disk.new) (disk.new ≡ disk.old) result }
+        ensures { IsStorageCallHandled (resting_at D.told app now root.now) (Call.RecoverStorage name.now)
+            (on_disk self.old (D.medium disk.old))
+            (on_disk self.new (D.medium disk.new)) (disk.new ≡ disk.old) result }
     {
         storages_stand();
         errors_have_texts();
@@ -77,8 +79,9 @@ impl OpenSlots {
         name: &Name,
     ) -> Result<Reply, Stop>
         requires { IsResting D.told (D.medium disk.old).image app root.now self.old }
-        ensures { IsStorageCallHandled D.told app now root.now (Call.ResetStorage name.now) self.old self.new
-            (D.medium disk.old) (D.medium disk.new) (disk.new ≡ disk.old) result }
+        ensures { IsStorageCallHandled (resting_at D.told app now root.now) (Call.ResetStorage name.now)
+            (on_disk self.old (D.medium disk.old))
+            (on_disk self.new (D.medium disk.new)) (disk.new ≡ disk.old) result }
     {
         storages_stand();
         errors_have_texts();

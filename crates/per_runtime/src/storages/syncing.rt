@@ -2,8 +2,9 @@
 
 ghost use Rattle.std.specs.Prelude.{◌≡◌, ◌<◌, ℕ, length};
 ghost use Rattle.command_text.specs.declared.calls.Call.{Call};
+ghost use Rattle.per_runtime.specs.Served.{on_disk};
 ghost use Rattle.per_runtime.specs.storages.Durables.{IsPutBack};
-ghost use Rattle.per_runtime.specs.storages.Handled.{IsStorageCallHandled};
+ghost use Rattle.per_runtime.specs.storages.Handled.{IsStorageCallHandled, resting_at};
 ghost use Rattle.per_runtime.specs.storages.Slots.{IsResting};
 
 use crate::replying::{answered, refusal};
@@ -37,8 +38,9 @@ impl OpenSlots {
         name: &Name,
     ) -> Result<Reply, Stop>
         requires { IsResting D.told (D.medium disk.old).image app root.now self.old }
-        ensures { (now : ℕ) → IsStorageCallHandled D.told app now root.now (Call.Sync name.now) self.old self.new
-            (D.medium disk.old) (D.medium disk.new) (disk.new ≡ disk.old) result }
+        ensures { (now : ℕ) → IsStorageCallHandled (resting_at D.told app now root.now) (Call.Sync name.now)
+            (on_disk self.old (D.medium disk.old))
+            (on_disk self.new (D.medium disk.new)) (disk.new ≡ disk.old) result }
     {
         storages_stand();
         errors_have_texts();
@@ -75,9 +77,9 @@ impl OpenSlots {
         handle: u32,
     ) -> Result<Reply, Stop>
         requires { IsResting D.told (D.medium disk.old).image app root.now self.old }
-        ensures { (now : ℕ) → IsStorageCallHandled D.told app now root.now
-            (Call.Flush name.now handle) self.old self.new
-            (D.medium disk.old) (D.medium disk.new) (disk.new ≡ disk.old) result }
+        ensures { (now : ℕ) → IsStorageCallHandled (resting_at D.told app now root.now) (Call.Flush name.now handle)
+            (on_disk self.old (D.medium disk.old))
+            (on_disk self.new (D.medium disk.new)) (disk.new ≡ disk.old) result }
     {
         storages_stand();
         errors_have_texts();

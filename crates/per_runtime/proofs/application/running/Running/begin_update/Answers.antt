@@ -3,6 +3,7 @@ use Rattle.std.specs.Prelude.{option_map}
 use Rattle.deploy.specs.Roots.{RootAt, root_says}
 use Rattle.command_text.specs.declared.calls.Call.TheVariants as call
 use Rattle.run_model.specs.Converters.{converters_of}
+use Rattle.per_runtime.specs.Served.{call_at, on_disk, terms}
 use Rattle.per_runtime.specs.declared.application.running.Running.{Running}
 use Rattle.per_runtime.specs.application.Promises.{Promises}
 use Rattle.per_runtime.specs.application.Needs.{no_update_over}
@@ -71,8 +72,9 @@ returns g c =
     let resting = resting_in told old.image s root c.requires.memory c.requires.rests c.take_root-root.ensures.root in
     let busy_is = busy_here s taken root c.as_ref.result c.in_ok-busy.busy c.take_root-root.ensures.left
     c.as_ref.ensures.value c.in_ok-busy.ensures.busy in
-    subst (λ (x : Running). Promises told converters c.args.now (call.UpdateBegin text) x c.conclude_begun.new.self
-    (c.begin_update-begun.new.disk ≡ c.args.disk.now) old new c.conclude_begun.result)
+    subst (λ (x : Running). Promises (terms told converters) (call_at c.args.now (call.UpdateBegin text))
+    (on_disk x old) (on_disk c.conclude_begun.new.self new) (c.begin_update-begun.new.disk ≡ c.args.disk.now)
+    c.conclude_begun.result)
     (stage_back s root c.requires.rests c.take_root-root.ensures.root)
     (begun_promises told converters c.args.now text s root old new (c.begin_update-begun.new.disk ≡ c.args.disk.now)
     resting c.roots_in_use.ensures.app c.rows_read_the_root.ensures.offer busy busy_is

@@ -2,6 +2,7 @@ use Rattle.std.proofs.Common.{◌≡◌, ◌∙◌, None, ap, refl, sym, subst}
 use Rattle.run_model.specs.Calls.{beside_update}
 use Rattle.run_model.specs.Converters.{converters_of}
 use Rattle.run_model.specs.Worlds.{update_in}
+use Rattle.per_runtime.specs.Served.{call_at, on_disk, terms}
 use Rattle.per_runtime.specs.Sorting.{asked_call, storing_call}
 use Rattle.per_runtime.specs.declared.application.running.Stage.{Stage}
 use Rattle.per_runtime.specs.declared.sorting.Asked.{Asked}
@@ -18,7 +19,8 @@ use Rattle.per_runtime.proofs.application.running.Running.call.Goals as goal
 pub returns-in-Some : goal.returns-in-Some
 returns-in-Some g c = busy_promises g.D.Disk.told (converters_of c.args.migrations.now)
     c.args.now (asked_call c.args.asked.now) c.args.self.now (g.D.Disk.medium c.args.disk.now)
-    (g.met.D.Disk.lawful c.args.disk.now) c.untouched_stands.ensures.untouched (c.args.disk.now ≡ c.args.disk.now) refl
+    (g.met.D.Disk.lawful c.args.disk.now) c.untouched_stands.ensures.untouched (c.args.disk.now ≡ c.args.disk.now)
+    refl
     c.requires.memory c.in-Some.busy (sym c.busy_with.ensures ∙ c.in-Some.is)
     c.refusal.result c.refusal.ensures
 
@@ -32,9 +34,9 @@ deploy-requires g c = record {
 
 pub returns-in-OfDeployment : goal.returns-in-OfDeployment
 returns-in-OfDeployment g c = subst
-    (λ (x : Asked). Promises g.D.Disk.told (converters_of c.args.migrations.now) c.args.now (asked_call x)
-    c.args.self.now c.deploy.new.self
-    (c.deploy.new.disk ≡ c.args.disk.now) (g.D.Disk.medium c.args.disk.now) (g.D.Disk.medium c.deploy.new.disk)
+    (λ (x : Asked). Promises (terms g.D.Disk.told (converters_of c.args.migrations.now))
+    (call_at c.args.now (asked_call x)) (on_disk c.args.self.now (g.D.Disk.medium c.args.disk.now))
+    (on_disk c.deploy.new.self (g.D.Disk.medium c.deploy.new.disk)) (c.deploy.new.disk ≡ c.args.disk.now)
     c.deploy.result) (sym c.in-OfDeployment.is) c.deploy.ensures
 
 pub returns-in_default-stage : goal.returns-in_default-stage
@@ -59,10 +61,11 @@ returns-in-AtRest g c =
     let old = g.D.Disk.medium c.args.disk.now in
     let new = g.D.Disk.medium c.call.new.disk in
     let Untouched = c.call.new.disk ≡ c.args.disk.now in
-    subst (λ (x : Asked). Promises told converters c.args.now (asked_call x) s
-    (record s { slots = c.call.new.self }) Untouched old new c.call.result) (sym c.in-OnStorage.is)
-    (subst (λ (x : Stage). Promises told converters c.args.now call (record s { stage = x })
-    (record s { stage = x; slots = c.call.new.self }) Untouched old new c.call.result) (sym c.in-AtRest.is)
+    subst (λ (x : Asked). Promises (terms told converters) (call_at c.args.now (asked_call x)) (on_disk s old)
+    (on_disk (record s { slots = c.call.new.self }) new) Untouched c.call.result) (sym c.in-OnStorage.is)
+    (subst (λ (x : Stage). Promises (terms told converters) (call_at c.args.now call)
+    (on_disk (record s { stage = x }) old) (on_disk (record s { stage = x; slots = c.call.new.self }) new) Untouched
+    c.call.result) (sym c.in-AtRest.is)
     (stored_promises told converters c.args.now call s c.in-AtRest.root c.call.new.self Untouched old new
     c.call.result (λ same. (ap (λ d. (g.D.Disk.medium d).image) same, ap (λ d. (g.D.Disk.medium d).written) same))
     (storing_on c.in-OnStorage.storing)

@@ -12,6 +12,7 @@ use Rattle.deploy_laws.specs.Apps.{IsCleanApp, app_at}
 use Rattle.deploy_laws.specs.Places.{shapes_in}
 use Rattle.deploy_rows.specs.Rows.{updated_app}
 use Rattle.run_model.specs.Converters.{converters_of}
+use Rattle.per_runtime.specs.Served.{call_at, on_disk, terms}
 use Rattle.per_runtime.specs.storages.Answers.{CallsTo}
 use Rattle.per_runtime.specs.declared.application.running.Running.{Running}
 use Rattle.per_runtime.specs.declared.application.running.Stage.TheVariants.{AtRest}
@@ -73,11 +74,11 @@ returns-in_err-root g c = λ now.
     (subst (λ n. n < 8) (sym of_app) at.0.memory.below) (free_low (staged_root t)) (contents_few s.app t at.0.memory)
     is) c.commit_update.ensures.outside (c.commit_update.ensures.any_moment tells)) in
     let e = c.in_err-root.field-0.0 in
-    subst (λ (x : Result Reply Stop). Promises told converters now call.UpdateCommit s taken
-    (c.commit_update.new.disk ≡ c.args.disk.now) old new x)
+    subst (λ (x : Result Reply Stop). Promises (terms told converters) (call_at now call.UpdateCommit)
+    (on_disk s old) (on_disk taken new) (c.commit_update.new.disk ≡ c.args.disk.now) x)
     (sym (passed_on c.from_residual.result e c.from_residual.ensures.1))
-    (subst (λ (x : Running). Promises told converters now call.UpdateCommit x taken
-    (c.commit_update.new.disk ≡ c.args.disk.now) old new (Err e)) (update_back s t stage_is)
+    (subst (λ (x : Running). Promises (terms told converters) (call_at now call.UpdateCommit) (on_disk x old)
+    (on_disk taken new) (c.commit_update.new.disk ≡ c.args.disk.now) (Err e)) (update_back s t stage_is)
     (commit_failed told converters now s t old new (c.commit_update.new.disk ≡ c.args.disk.now) at.0
     c.requires.memory.below at.1 c.roots_in_use.ensures.app c.rows_lead_on.ensures.update
     e taken c.in-Some.ensures.left (λ is. c.commit_update.ensures.cause
@@ -114,14 +115,14 @@ returns g c = λ now.
     (length (staged_progress t).contents) f
     (subst (λ n. n < 8) (sym of_app) at.0.memory.below) (free_low (staged_root t)) (contents_few s.app t at.0.memory)
     is) c.commit_update.ensures.outside (c.commit_update.ensures.any_moment tells)) in
-    subst (λ (x : Running). Promises told converters now call.UpdateCommit s
-    (record x { stage = AtRest c.in_ok-root.root }) (c.commit_update.new.disk ≡ c.args.disk.now) old new
+    subst (λ (x : Running). Promises (terms told converters) (call_at now call.UpdateCommit) (on_disk s old)
+    (on_disk (record x { stage = AtRest c.in_ok-root.root }) new) (c.commit_update.new.disk ≡ c.args.disk.now)
     (Ok c.answered.result)) (sym c.in-Some.ensures.left)
-    (subst (λ (x : Reply). Promises told converters now call.UpdateCommit s
-    (record s { stage = AtRest c.in_ok-root.root }) (c.commit_update.new.disk ≡ c.args.disk.now) old new (Ok x))
+    (subst (λ (x : Reply). Promises (terms told converters) (call_at now call.UpdateCommit) (on_disk s old)
+    (on_disk (record s { stage = AtRest c.in_ok-root.root }) new) (c.commit_update.new.disk ≡ c.args.disk.now) (Ok x))
     (sym c.answered.ensures)
-    (subst (λ (x : Running). Promises told converters now call.UpdateCommit x
-    (record s { stage = AtRest c.in_ok-root.root }) (c.commit_update.new.disk ≡ c.args.disk.now) old new
+    (subst (λ (x : Running). Promises (terms told converters) (call_at now call.UpdateCommit) (on_disk x old)
+    (on_disk (record s { stage = AtRest c.in_ok-root.root }) new) (c.commit_update.new.disk ≡ c.args.disk.now)
     (Ok (reply_with answer.Done))) (update_back s t stage_is)
     (commit_done told converters now s t old new (c.commit_update.new.disk ≡ c.args.disk.now) at.0
     c.requires.memory.below at.1 c.roots_in_use.ensures.app c.rows_lead_on.ensures.update

@@ -2,6 +2,7 @@ use Rattle.std.proofs.Common.{◌≡◌, ℕ, Ok, List, ap, refl, sym, subst}
 use Rattle.command_text.specs.declared.calls.Call.{Call}
 use Rattle.command_text.specs.declared.calls.Call.TheVariants as call
 use Rattle.run_model.specs.Converters.{converters_of}
+use Rattle.per_runtime.specs.Served.{call_at, on_disk, terms}
 use Rattle.per_runtime.specs.Sorting.{deploying_call}
 use Rattle.per_runtime.specs.application.Promises.{Promises}
 use Rattle.per_runtime.proofs.application_lemmas.Arms.{abort_promises, at_rest_for, status_promises}
@@ -9,10 +10,10 @@ use Rattle.per_runtime.proofs.application.running.Running.deploy.Goals as goal
 
 pub returns-in-Status : goal.returns-in-Status
 returns-in-Status g c = subst
-    (λ (k : Call). Promises g.D.Disk.told (converters_of c.args.migrations.now) c.args.now k c.args.self.now
-    c.args.self.now
-    (c.args.disk.now ≡ c.args.disk.now)
-    (g.D.Disk.medium c.args.disk.now) (g.D.Disk.medium c.args.disk.now) (Ok c.status.result)) (sym (ap deploying_call
+    (λ (k : Call). Promises (terms g.D.Disk.told (converters_of c.args.migrations.now)) (call_at c.args.now k)
+    (on_disk c.args.self.now (g.D.Disk.medium c.args.disk.now))
+    (on_disk c.args.self.now (g.D.Disk.medium c.args.disk.now)) (c.args.disk.now ≡ c.args.disk.now)
+    (Ok c.status.result)) (sym (ap deploying_call
     c.in-Status.is))
     (status_promises g.D.Disk.told (converters_of c.args.migrations.now) c.args.now
     c.args.self.now (g.D.Disk.medium c.args.disk.now) (g.met.D.Disk.lawful c.args.disk.now)
@@ -21,9 +22,9 @@ returns-in-Status g c = subst
 
 pub returns-in-UpdateAbort : goal.returns-in-UpdateAbort
 returns-in-UpdateAbort g c = subst
-    (λ (k : Call). Promises g.D.Disk.told (converters_of c.args.migrations.now) c.args.now k c.args.self.now
-    c.abort_update.new.self
-    (c.args.disk.now ≡ c.args.disk.now) (g.D.Disk.medium c.args.disk.now) (g.D.Disk.medium c.args.disk.now)
+    (λ (k : Call). Promises (terms g.D.Disk.told (converters_of c.args.migrations.now)) (call_at c.args.now k)
+    (on_disk c.args.self.now (g.D.Disk.medium c.args.disk.now))
+    (on_disk c.abort_update.new.self (g.D.Disk.medium c.args.disk.now)) (c.args.disk.now ≡ c.args.disk.now)
     (Ok c.abort_update.result)) (sym (ap deploying_call c.in-UpdateAbort.is))
     (abort_promises g.D.Disk.told (converters_of c.args.migrations.now) c.args.now
     c.args.self.now (g.D.Disk.medium c.args.disk.now) (g.met.D.Disk.lawful c.args.disk.now)
@@ -32,33 +33,34 @@ returns-in-UpdateAbort g c = subst
 
 pub returns-in-Install : goal.returns-in-Install
 returns-in-Install g c = subst
-    (λ (k : Call). Promises g.D.Disk.told (converters_of c.args.migrations.now) c.args.now k c.args.self.now
-    c.install.new.self
-    (c.install.new.disk ≡ c.args.disk.now) (g.D.Disk.medium c.args.disk.now) (g.D.Disk.medium c.install.new.disk)
+    (λ (k : Call). Promises (terms g.D.Disk.told (converters_of c.args.migrations.now)) (call_at c.args.now k)
+    (on_disk c.args.self.now (g.D.Disk.medium c.args.disk.now))
+    (on_disk c.install.new.self (g.D.Disk.medium c.install.new.disk)) (c.install.new.disk ≡ c.args.disk.now)
     c.install.result) (sym (ap deploying_call c.in-Install.is))
-    (subst (λ (t : List ℕ). Promises g.D.Disk.told (converters_of c.args.migrations.now)
-    c.args.now (call.Install t) c.args.self.now c.install.new.self
-    (c.install.new.disk ≡ c.args.disk.now) (g.D.Disk.medium c.args.disk.now) (g.D.Disk.medium c.install.new.disk)
+    (subst (λ (t : List ℕ). Promises (terms g.D.Disk.told (converters_of c.args.migrations.now))
+    (call_at c.args.now (call.Install t)) (on_disk c.args.self.now (g.D.Disk.medium c.args.disk.now))
+    (on_disk c.install.new.self (g.D.Disk.medium c.install.new.disk)) (c.install.new.disk ≡ c.args.disk.now)
     c.install.result) c.as_slice.ensures c.install.ensures)
 
 pub update-requires : goal.update-requires
 update-requires g c = record {
   memory = c.requires.memory;
   rests =
-      at_rest_for c.args.self.now.stage (deploying_call c.args.deploying.now) (call.Update c.in-Update.manifest.now) (ap
+      at_rest_for c.args.self.now.stage (deploying_call c.args.deploying.now) (call.Update c.in-Update.manifest.now)
+      (ap
       deploying_call c.in-Update.is)
       c.requires.opened refl c.requires.free;
 }
 
 pub returns-in-Update : goal.returns-in-Update
 returns-in-Update g c = subst
-    (λ (k : Call). Promises g.D.Disk.told (converters_of c.args.migrations.now) c.args.now k c.args.self.now
-    c.update.new.self
-    (c.update.new.disk ≡ c.args.disk.now) (g.D.Disk.medium c.args.disk.now) (g.D.Disk.medium c.update.new.disk)
+    (λ (k : Call). Promises (terms g.D.Disk.told (converters_of c.args.migrations.now)) (call_at c.args.now k)
+    (on_disk c.args.self.now (g.D.Disk.medium c.args.disk.now))
+    (on_disk c.update.new.self (g.D.Disk.medium c.update.new.disk)) (c.update.new.disk ≡ c.args.disk.now)
     c.update.result) (sym (ap deploying_call c.in-Update.is))
-    (subst (λ (t : List ℕ). Promises g.D.Disk.told (converters_of c.args.migrations.now)
-    c.args.now (call.Update t) c.args.self.now c.update.new.self
-    (c.update.new.disk ≡ c.args.disk.now) (g.D.Disk.medium c.args.disk.now) (g.D.Disk.medium c.update.new.disk)
+    (subst (λ (t : List ℕ). Promises (terms g.D.Disk.told (converters_of c.args.migrations.now))
+    (call_at c.args.now (call.Update t)) (on_disk c.args.self.now (g.D.Disk.medium c.args.disk.now))
+    (on_disk c.update.new.self (g.D.Disk.medium c.update.new.disk)) (c.update.new.disk ≡ c.args.disk.now)
     c.update.result) c.as_slice-in-Update.ensures c.update.ensures)
 
 pub finish-requires : goal.finish-requires
@@ -72,9 +74,9 @@ finish-requires g c = record {
 
 pub returns-in-Finish : goal.returns-in-Finish
 returns-in-Finish g c = subst
-    (λ (k : Call). Promises g.D.Disk.told (converters_of c.args.migrations.now) c.args.now k c.args.self.now
-    c.finish.new.self
-    (c.finish.new.disk ≡ c.args.disk.now) (g.D.Disk.medium c.args.disk.now) (g.D.Disk.medium c.finish.new.disk)
+    (λ (k : Call). Promises (terms g.D.Disk.told (converters_of c.args.migrations.now)) (call_at c.args.now k)
+    (on_disk c.args.self.now (g.D.Disk.medium c.args.disk.now))
+    (on_disk c.finish.new.self (g.D.Disk.medium c.finish.new.disk)) (c.finish.new.disk ≡ c.args.disk.now)
     c.finish.result) (sym (ap deploying_call c.in-Finish.is))
     (c.finish.ensures c.args.now)
 
@@ -89,9 +91,9 @@ rollback-requires g c = record {
 
 pub returns-in-Rollback : goal.returns-in-Rollback
 returns-in-Rollback g c = subst
-    (λ (k : Call). Promises g.D.Disk.told (converters_of c.args.migrations.now) c.args.now k c.args.self.now
-    c.rollback.new.self
-    (c.rollback.new.disk ≡ c.args.disk.now) (g.D.Disk.medium c.args.disk.now) (g.D.Disk.medium c.rollback.new.disk)
+    (λ (k : Call). Promises (terms g.D.Disk.told (converters_of c.args.migrations.now)) (call_at c.args.now k)
+    (on_disk c.args.self.now (g.D.Disk.medium c.args.disk.now))
+    (on_disk c.rollback.new.self (g.D.Disk.medium c.rollback.new.disk)) (c.rollback.new.disk ≡ c.args.disk.now)
     c.rollback.result) (sym (ap deploying_call c.in-Rollback.is))
     (c.rollback.ensures c.args.now)
 
@@ -99,15 +101,16 @@ pub wipe-requires : goal.wipe-requires
 wipe-requires g c = record {
   memory = c.requires.memory;
   rests =
-      at_rest_for c.args.self.now.stage (deploying_call c.args.deploying.now) call.Wipe (ap deploying_call c.in-Wipe.is)
+      at_rest_for c.args.self.now.stage (deploying_call c.args.deploying.now) call.Wipe
+      (ap deploying_call c.in-Wipe.is)
       c.requires.opened refl c.requires.free;
 }
 
 pub returns-in-Wipe : goal.returns-in-Wipe
 returns-in-Wipe g c = subst
-    (λ (k : Call). Promises g.D.Disk.told (converters_of c.args.migrations.now) c.args.now k c.args.self.now
-    c.wipe.new.self
-    (c.wipe.new.disk ≡ c.args.disk.now) (g.D.Disk.medium c.args.disk.now) (g.D.Disk.medium c.wipe.new.disk)
+    (λ (k : Call). Promises (terms g.D.Disk.told (converters_of c.args.migrations.now)) (call_at c.args.now k)
+    (on_disk c.args.self.now (g.D.Disk.medium c.args.disk.now))
+    (on_disk c.wipe.new.self (g.D.Disk.medium c.wipe.new.disk)) (c.wipe.new.disk ≡ c.args.disk.now)
     c.wipe.result) (sym (ap deploying_call c.in-Wipe.is))
     (c.wipe.ensures c.args.now)
 
@@ -122,28 +125,29 @@ begin_update-requires g c = record {
 
 pub returns-in-UpdateBegin : goal.returns-in-UpdateBegin
 returns-in-UpdateBegin g c = subst
-    (λ (k : Call). Promises g.D.Disk.told (converters_of c.args.migrations.now) c.args.now k c.args.self.now
-    c.begin_update.new.self
-    (c.begin_update.new.disk ≡ c.args.disk.now) (g.D.Disk.medium c.args.disk.now)
-    (g.D.Disk.medium c.begin_update.new.disk) c.begin_update.result) (sym (ap deploying_call c.in-UpdateBegin.is))
-    (subst (λ (t : List ℕ). Promises g.D.Disk.told (converters_of c.args.migrations.now)
-    c.args.now (call.UpdateBegin t) c.args.self.now c.begin_update.new.self
-    (c.begin_update.new.disk ≡ c.args.disk.now) (g.D.Disk.medium c.args.disk.now)
-    (g.D.Disk.medium c.begin_update.new.disk) c.begin_update.result) c.as_slice-in-UpdateBegin.ensures
+    (λ (k : Call). Promises (terms g.D.Disk.told (converters_of c.args.migrations.now)) (call_at c.args.now k)
+    (on_disk c.args.self.now (g.D.Disk.medium c.args.disk.now))
+    (on_disk c.begin_update.new.self (g.D.Disk.medium c.begin_update.new.disk))
+    (c.begin_update.new.disk ≡ c.args.disk.now) c.begin_update.result) (sym (ap deploying_call c.in-UpdateBegin.is))
+    (subst (λ (t : List ℕ). Promises (terms g.D.Disk.told (converters_of c.args.migrations.now))
+    (call_at c.args.now (call.UpdateBegin t)) (on_disk c.args.self.now (g.D.Disk.medium c.args.disk.now))
+    (on_disk c.begin_update.new.self (g.D.Disk.medium c.begin_update.new.disk))
+    (c.begin_update.new.disk ≡ c.args.disk.now) c.begin_update.result) c.as_slice-in-UpdateBegin.ensures
     c.begin_update.ensures)
 
 pub returns-in-UpdateNext : goal.returns-in-UpdateNext
 returns-in-UpdateNext g c = subst
-    (λ (k : Call). Promises g.D.Disk.told (converters_of c.args.migrations.now) c.args.now k c.args.self.now
-    c.next_storage.new.self
-    (c.next_storage.new.disk ≡ c.args.disk.now) (g.D.Disk.medium c.args.disk.now)
-    (g.D.Disk.medium c.next_storage.new.disk) c.next_storage.result) (sym (ap deploying_call c.in-UpdateNext.is))
+    (λ (k : Call). Promises (terms g.D.Disk.told (converters_of c.args.migrations.now)) (call_at c.args.now k)
+    (on_disk c.args.self.now (g.D.Disk.medium c.args.disk.now))
+    (on_disk c.next_storage.new.self (g.D.Disk.medium c.next_storage.new.disk))
+    (c.next_storage.new.disk ≡ c.args.disk.now) c.next_storage.result) (sym (ap deploying_call c.in-UpdateNext.is))
     (c.next_storage.ensures c.args.now)
 
 pub returns-in-UpdateCommit : goal.returns-in-UpdateCommit
 returns-in-UpdateCommit g c = subst
-    (λ (k : Call). Promises g.D.Disk.told (converters_of c.args.migrations.now) c.args.now k c.args.self.now
-    c.commit_update.new.self
-    (c.commit_update.new.disk ≡ c.args.disk.now) (g.D.Disk.medium c.args.disk.now)
-    (g.D.Disk.medium c.commit_update.new.disk) c.commit_update.result) (sym (ap deploying_call c.in-UpdateCommit.is))
+    (λ (k : Call). Promises (terms g.D.Disk.told (converters_of c.args.migrations.now)) (call_at c.args.now k)
+    (on_disk c.args.self.now (g.D.Disk.medium c.args.disk.now))
+    (on_disk c.commit_update.new.self (g.D.Disk.medium c.commit_update.new.disk))
+    (c.commit_update.new.disk ≡ c.args.disk.now) c.commit_update.result)
+    (sym (ap deploying_call c.in-UpdateCommit.is))
     (c.commit_update.ensures c.args.now)

@@ -10,6 +10,7 @@ use Rattle.deploy.specs.Roots.{free_bank}
 use Rattle.deploy_laws.specs.Apps.{IsCleanApp, app_at}
 use Rattle.deploy_laws.specs.Places.{IsBeside, shapes_in}
 use Rattle.run_model.specs.Converters.{converters_of}
+use Rattle.per_runtime.specs.Served.{call_at, on_disk, terms}
 use Rattle.per_runtime.specs.storages.Answers.{CallsTo}
 use Rattle.per_runtime.specs.declared.application.running.Running.{Running}
 use Rattle.per_runtime.specs.declared.application.running.Stage.TheVariants.{Updating}
@@ -65,11 +66,11 @@ returns-in_err-staged g c = λ now.
     (built_few s.app t at.0.memory) is) c.next_storage.ensures.outside
     (c.next_storage.ensures.any_moment tells)) in
     let e = c.in_err-staged.field-0.0 in
-    subst (λ (x : Result Reply Stop). Promises told converters now call.UpdateNext s taken
-    (c.next_storage.new.disk ≡ c.args.disk.now) old new x)
+    subst (λ (x : Result Reply Stop). Promises (terms told converters) (call_at now call.UpdateNext) (on_disk s old)
+    (on_disk taken new) (c.next_storage.new.disk ≡ c.args.disk.now) x)
     (sym (passed_on c.from_residual.result e c.from_residual.ensures.1))
-    (subst (λ (x : Running). Promises told converters now call.UpdateNext x taken
-    (c.next_storage.new.disk ≡ c.args.disk.now) old new (Err e)) (update_back s t stage_is)
+    (subst (λ (x : Running). Promises (terms told converters) (call_at now call.UpdateNext) (on_disk x old)
+    (on_disk taken new) (c.next_storage.new.disk ≡ c.args.disk.now) (Err e)) (update_back s t stage_is)
     (next_failed told converters now s t old new (c.next_storage.new.disk ≡ c.args.disk.now) at.0
     c.requires.memory.below at.1 c.roots_in_use.ensures.app
     e taken c.in-Some.ensures.left (λ is. c.next_storage.ensures.cause
@@ -78,7 +79,8 @@ returns-in_err-staged g c = λ now.
     c.next_storage.ensures.time
     (next_written told converters now s t old new (c.next_storage.new.disk ≡ c.args.disk.now) at.0
     c.requires.memory.below at.1 c.roots_in_use.ensures.app c.next_storage.ensures.written
-    (subst (λ n. Leaves told (IsInNone (take 1 (drop (staged_progress t).built (shapes_in n (offered_in t))))) old new)
+    (subst (λ n. Leaves told (IsInNone (take 1 (drop (staged_progress t).built (shapes_in n (offered_in t))))) old
+    new)
     of_app c.next_storage.ensures.places))))
 
 pub returns : goal.returns
@@ -99,23 +101,27 @@ returns g c = λ now.
     tells (λ f is. beside t.app (free_bank (staged_root t)) (staged_progress t).built f (free_low (staged_root t))
     (built_few s.app t at.0.memory) is) c.next_storage.ensures.outside
     (c.next_storage.ensures.any_moment tells)) in
-    subst (λ (x : Running). Promises told converters now call.UpdateNext s
-    (record x { stage = Updating c.in_ok-staged.staged }) (c.next_storage.new.disk ≡ c.args.disk.now) old new
+    subst (λ (x : Running). Promises (terms told converters) (call_at now call.UpdateNext) (on_disk s old)
+    (on_disk (record x { stage = Updating c.in_ok-staged.staged }) new)
+    (c.next_storage.new.disk ≡ c.args.disk.now)
     (Ok c.answered.result)) (sym c.in-Some.ensures.left)
-    (subst (λ (x : Reply). Promises told converters now call.UpdateNext s
-    (record s { stage = Updating c.in_ok-staged.staged }) (c.next_storage.new.disk ≡ c.args.disk.now) old new
+    (subst (λ (x : Reply). Promises (terms told converters) (call_at now call.UpdateNext) (on_disk s old)
+    (on_disk (record s { stage = Updating c.in_ok-staged.staged }) new) (c.next_storage.new.disk ≡ c.args.disk.now)
     (Ok x)) (sym c.answered.ensures)
-    (subst (λ (x : Running). Promises told converters now call.UpdateNext x
-    (record s { stage = Updating c.in_ok-staged.staged }) (c.next_storage.new.disk ≡ c.args.disk.now) old new
+    (subst (λ (x : Running). Promises (terms told converters) (call_at now call.UpdateNext) (on_disk x old)
+    (on_disk (record s { stage = Updating c.in_ok-staged.staged }) new) (c.next_storage.new.disk ≡ c.args.disk.now)
     (Ok (reply_with (answer.Number c.from.result)))) (update_back s t stage_is)
     (next_done told converters now s t old new (c.next_storage.new.disk ≡ c.args.disk.now) at.0
     c.requires.memory.below at.1 c.roots_in_use.ensures.app
-    c.in_ok-staged.staged c.from.result c.in_ok-staged.ensures.progress (c.from.ensures ∙ c.remaining-remaining.ensures)
+    c.in_ok-staged.staged c.from.result c.in_ok-staged.ensures.progress
+    (c.from.ensures ∙ c.remaining-remaining.ensures)
     (subst (λ n. StagedAt told new.image n c.in_ok-staged.staged) of_app c.in_ok-staged.ensures.staged)
     (λ tells. subst (λ n. app_at new.image n ≡ app_at old.image n) of_app (c.next_storage.ensures.app tells)) calls
-    (λ tells. subst (λ n. IsCleanApp n old.image → IsCleanApp n new.image) of_app (c.next_storage.ensures.clean tells))
+    (λ tells. subst (λ n. IsCleanApp n old.image → IsCleanApp n new.image) of_app
+    (c.next_storage.ensures.clean tells))
     c.in_ok-staged.ensures.quiet c.in_ok-staged.ensures.passes c.next_storage.ensures.time
     (next_written told converters now s t old new (c.next_storage.new.disk ≡ c.args.disk.now) at.0
     c.requires.memory.below at.1 c.roots_in_use.ensures.app c.next_storage.ensures.written
-    (subst (λ n. Leaves told (IsInNone (take 1 (drop (staged_progress t).built (shapes_in n (offered_in t))))) old new)
+    (subst (λ n. Leaves told (IsInNone (take 1 (drop (staged_progress t).built (shapes_in n (offered_in t))))) old
+    new)
     of_app c.next_storage.ensures.places)))))

@@ -4,6 +4,7 @@ use Rattle.deploy.specs.Roots.{RootAt, root_says}
 use Rattle.deploy_laws.specs.Apps.{IsCleanApp}
 use Rattle.command_text.specs.declared.calls.Call.TheVariants as call
 use Rattle.run_model.specs.Converters.{converters_of}
+use Rattle.per_runtime.specs.Served.{call_at, on_disk, terms}
 use Rattle.per_runtime.specs.declared.application.running.Running.{Running}
 use Rattle.per_runtime.specs.application.Promises.{Promises}
 use Rattle.per_runtime.specs.application.Needs.{no_update_over}
@@ -73,8 +74,8 @@ returns g c =
     let resting = resting_in told old.image s root c.requires.memory c.requires.rests c.take_root-root.ensures.root in
     let busy_is = busy_here s taken root c.as_ref.result c.in_ok-busy.busy c.take_root-root.ensures.left
     c.as_ref.ensures.value c.in_ok-busy.ensures.busy in
-    subst (λ (x : Running). Promises told converters c.args.now (call.Update text) x c.conclude.new.self
-    (c.update-made.new.disk ≡ c.args.disk.now) old new c.conclude.result)
+    subst (λ (x : Running). Promises (terms told converters) (call_at c.args.now (call.Update text)) (on_disk x old)
+    (on_disk c.conclude.new.self new) (c.update-made.new.disk ≡ c.args.disk.now) c.conclude.result)
     (stage_back s root c.requires.rests c.take_root-root.ensures.root)
     (updated_promises told converters c.args.now text s root old new (c.update-made.new.disk ≡ c.args.disk.now)
     resting c.roots_in_use.ensures.app c.rows_read_the_root.ensures.offer busy busy_is

@@ -1,10 +1,11 @@
 //! The output of a run: why the disk failed, and why a line was refused, is told where it is answered.
 
+use crate::causes::{Fault, say_answered, say_of_folder};
 use crate::hearing::LastRead;
+use crate::saying::{Screen, say};
 use crate::trying::{Place, why_not_updated_in};
 use per_reasons::why_refused;
 use per_system::Notes;
-use per_terminal::{Fault, Screen, say, say_answered, say_of_folder};
 use std::alloc::{AllocError, Global};
 use std::cell::Cell;
 use std::fs::File;
@@ -19,7 +20,7 @@ const NO_ROOT: &[u8] = b"error 5 IntegrityCorrupted root\n";
 
 /// What shows while a run goes on.
 #[derive(Drop)]
-pub struct Marks {
+pub(crate) struct Marks {
     /// Whether a line of an audit says that something is damaged or lost.
     has_damage: Cell<bool>,
     /// Whether the folder has no file of the disk or of the flash, and this is to be said.
@@ -29,8 +30,7 @@ pub struct Marks {
 }
 
 impl Marks {
-    /// Nothing shows yet.
-    pub fn new() -> Marks {
+    pub(crate) fn new() -> Marks {
         Marks {
             has_damage: Cell::new(false),
             is_blank: Cell::new(false),
@@ -38,55 +38,43 @@ impl Marks {
         }
     }
 
-    /// Whether a line of an audit said that something is damaged or lost.
-    pub fn has_damage(&self) -> bool {
+    pub(crate) fn has_damage(&self) -> bool {
         self.has_damage.get()
     }
 
-    /// Whether it was said that the folder has no file of the disk or of the flash.
-    pub fn is_told(&self) -> bool {
+    pub(crate) fn is_told(&self) -> bool {
         self.is_told.get()
     }
 
-    /// Notes that the folder has none, which is to be said of the first line that is refused for it.
-    pub fn note_blank(&self) {
+    pub(crate) fn note_blank(&self) {
         self.is_blank.set(true);
     }
 
-    /// Notes that it was said.
-    pub fn note_told(&self) {
+    pub(crate) fn note_told(&self) {
         self.is_blank.set(false);
         self.is_told.set(true);
     }
 }
 
-/// An output that says on standard error why the disk failed, or a line was refused, before it takes the reply. What is
-/// written to it is what its output takes.
+/// An output that says on standard error why the disk failed, or a line was refused, before it takes the reply.
 #[derive(Drop)]
-pub struct Telling<'a, R: Files<File = File> + Screen, O: Write + Drop> {
-    /// The process.
-    pub rt: &'a R,
-    /// Its memory.
-    pub alloc: Global,
+pub(crate) struct Telling<'a, R: Files<File = File> + Screen, O: Write + Drop> {
+    pub(crate) rt: &'a R,
+    pub(crate) alloc: Global,
     /// Where the run is.
-    pub place: Place<'a>,
-    /// Where the failures of the disk are noted.
-    pub notes: &'a Notes,
+    pub(crate) place: Place<'a>,
+    pub(crate) notes: &'a Notes,
     /// Why the disk failed, where no call of the system did.
-    pub otherwise: Option<Fault>,
+    pub(crate) otherwise: Option<Fault>,
     /// The lines that are answered.
-    pub last: &'a LastRead,
+    pub(crate) last: &'a LastRead,
     /// Whether what is written is an audit.
-    pub audits: bool,
-    /// What shows in the replies.
-    pub marks: &'a Marks,
-    /// What takes the replies.
-    pub output: O,
+    pub(crate) audits: bool,
+    pub(crate) marks: &'a Marks,
+    pub(crate) output: O,
 }
 
 impl<'a, R: Files<File = File> + Screen, O: Write + Drop> Write for Telling<'a, R, O> {
-    ghost contents = { λ telling. O.contents telling.output };
-
     fn write(&mut self, bytes: &[u8]) -> io::Result<usize> {
         if answers_failure(bytes) {
             self.say_fault();

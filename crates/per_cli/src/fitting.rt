@@ -1,12 +1,12 @@
-//! What the text of a dump may be, so that no text takes more memory than 768 MiB, three times what all storages may hold
-//! and have pending. To read a text takes about three times its length, and some 200 bytes for each of its parts.
+//! What the text of a dump may be, so that no text takes more memory than three times what all storages may hold and may
+//! have pending, 768 MiB. To read a text takes about three times its length, and some 200 bytes for each of its parts.
 
 /// How many bytes a dump has at most, of which each part counts as [`PART_BYTES`] more.
 pub(crate) const DUMP_BYTES: u64 = 251_658_240;
 
 /// What is said of a text that is longer.
 pub(crate) const TOO_LONG: &str =
-    "it has more than 251658240 bytes, where each part counts as 64 more (per dump A: one application alone)";
+    "it has more than 251658240 bytes, where each of its parts counts as 64; per dump A has application A alone";
 
 /// As how many bytes a part of a text counts.
 pub(crate) const PART_BYTES: u64 = 64;
@@ -28,7 +28,7 @@ fn parts_in(text: &[u8]) -> u64 {
 }
 
 /// The parts that were counted so far.
-#[derive(Default, Drop)]
+#[derive(Default)]
 struct Parts {
     outside: u64,
     /// In the string that is being read.

@@ -3,8 +3,13 @@
 //! A dump changes nothing. A restore reads its whole text before it holds the folder, and then installs one application
 //! after another, each whole or not at all. How long a dump may be is bounded ([`fitting`](crate::fitting)).
 
+use crate::causes::{Ended, Fault, say, say_of_folder};
 use crate::fitting::{DUMP_BYTES, TOO_LONG, fits};
 use crate::measuring::longest_dump;
+use crate::saying::{Screen, say as say_line, say_awaited};
+use crate::{
+    NO_DISK, NO_INPUT, NO_MEMORY, NO_OUTPUT, REFUSED_CALL, REFUSED_WORDS, WRONG_SIZE, program,
+};
 use command_text::{Answer, Reply, errors_have_texts, print_reply};
 use deploy::Stop;
 use disk_model::Disk;
@@ -16,11 +21,9 @@ use folder_flash::{FolderFlash, of_flash};
 use per_base::{PerError, Sequence};
 use per_dump::{Dumped, dump_application, restore_application};
 use per_reasons::{why_no_dump, why_not_restored, why_refused};
+use per_run::{JobKind, WordsError, read_words};
 use per_system::{Access, DeviceKind, HostSystem, Noted, NotedFlash, Notes};
-use per_terminal::{
-    Ended, Fault, NO_DISK, NO_INPUT, NO_MEMORY, NO_OUTPUT, REFUSED_CALL, REFUSED_WORDS, Screen,
-    UNUSABLE, WRONG_SIZE, no_memory, say as say_line, say_awaited, say_end, say_of_folder,
-};
+use per_words::options_in;
 use std::alloc::{AllocError, Global};
 use std::fs::{self, File};
 use std::io::{self, Input, Read, Write};
@@ -30,6 +33,9 @@ use system_model::{Failure, System};
 /// How many applications a disk has.
 const APPLICATIONS: u32 = 8;
 
+/// The status where a flash cannot be opened.
+const UNUSABLE: u8 = 10;
+
 /// What is said of other arguments than these.
 const DUMP_TAKES: &str = "dump takes one application, 0 to 7, or none";
 
@@ -37,6 +43,8 @@ const RESTORE_TAKES: &str = "restore takes one file, or none";
 
 /// What is said to a person who is to type a dump.
 const DUMP_AWAITED: &str = "per: the dump is awaited; Ctrl-D at the beginning of a line ends it";
+
+const BESIDE: &str = "options are --dir DIR and --flash N alone";
 
 /// What is wanted.
 #[derive(Drop)]
@@ -49,11 +57,9 @@ enum Wanted {
 
 /// Where it is wanted.
 #[derive(Drop)]
-pub struct Place {
-    /// The folder.
-    pub dir: String,
-    /// How many blocks the flash has, where the folder is to hold one.
-    pub flash: Option<u32>,
+struct Place {
+    dir: String,
+    flash: Option<u32>,
 }
 
 /// Why nothing was begun.
@@ -104,15 +110,20 @@ impl From<DumpError> for Unbegun {
     }
 }
 
-/// Makes a dump in this place, or restores one, as the words ask, and gives the status.
-pub fn dump_or_restore<R: Files<File = File> + AllocGlobal + Input + Print + Screen>(
+/// Whether the word asks for a dump or a restore.
+pub(crate) fn is_word(word: &[u8]) -> bool {
+    word == b"dump".as_slice() || word == b"restore".as_slice()
+}
+
+/// Makes a dump, or restores one, as the words ask, and gives the status.
+pub(crate) fn run<R: Files<File = File> + AllocGlobal + Input + Print + Screen>(
     rt: &R,
+    words: &[String],
     named: &[&[u8]],
-    place: Place,
 ) -> u8 {
     let alloc = rt.alloc();
-    match wanted_in(rt, alloc, named) {
-        Ok(wanted) => done(rt, alloc, &wanted, place),
+    match begun(rt, alloc, words, named) {
+        Ok((wanted, place)) => done(rt, alloc, words, &wanted, place),
         Err(unbegun) => not_begun(rt, alloc, named, unbegun),
     }
 }
@@ -135,7 +146,7 @@ fn not_begun<R: Screen>(rt: &R, alloc: Global, named: &[&[u8]], unbegun: Unbegun
             let _ = say_line(rt, alloc, line);
             REFUSED_CALL
         }
-        Unbegun::OutOfMemory => no_memory(rt),
+        Unbegun::OutOfMemory => program::no_memory(rt),
     }
 }
 
@@ -145,6 +156,18 @@ fn input_name<'a>(named: &[&'a [u8]]) -> &'a str {
         [_, file] => str::from_utf8(*file).unwrap_or("the file"),
         _ => "standard input",
     }
+}
+
+/// What the words ask for, and where.
+fn begun<R: Files<File = File> + Input + Screen>(
+    rt: &R,
+    alloc: Global,
+    words: &[String],
+    named: &[&[u8]],
+) -> Result<(Wanted, Place), Unbegun> {
+    let place = place_of(alloc, words)?;
+    let wanted = wanted_in(rt, alloc, named)?;
+    Ok((wanted, place))
 }
 
 /// What the words ask for.
@@ -186,8 +209,8 @@ fn dump_in_file<R: Files<File = File>>(
     Ok(Wanted::Restore(dump_in(alloc, text.as_slice())?))
 }
 
-/// The text that is read, up to one byte beyond what a dump may have.
-fn text_of<S: Read + Drop>(alloc: Global, source: S) -> Result<Vec<u8>, Unbegun> {
+/// The text that is read, as far as a dump may be one byte longer than it may.
+fn text_of<S: Read>(alloc: Global, source: S) -> Result<Vec<u8>, Unbegun> {
     let mut text = Vec::new(alloc);
     source.take(DUMP_BYTES + 1).read_to_end(&mut text)?;
     text.shrink_to_fit();
@@ -216,6 +239,19 @@ fn explained(alloc: Global, text: &[u8], said: String) -> Result<String, AllocEr
     }
 }
 
+/// The folder, and the blocks of its flash.
+fn place_of(alloc: Global, words: &[String]) -> Result<Place, Unbegun> {
+    let options = options_in(alloc, words)?;
+    match read_words(alloc, options.as_slice()) {
+        Ok(job) if matches!(job.kind, JobKind::Run) => Ok(Place {
+            dir: job.dir.into_string(),
+            flash: job.flash,
+        }),
+        Ok(_) | Err(WordsError::Refused) => Err(Unbegun::Refused(BESIDE)),
+        Err(WordsError::OutOfMemory) => Err(Unbegun::OutOfMemory),
+    }
+}
+
 /// The number of an application, which is one digit.
 fn application_of(word: &[u8]) -> Result<u32, Unbegun> {
     match word {
@@ -228,12 +264,13 @@ fn application_of(word: &[u8]) -> Result<u32, Unbegun> {
 fn done<R: Files<File = File> + AllocGlobal + Print + Screen>(
     rt: &R,
     alloc: Global,
+    words: &[String],
     wanted: &Wanted,
     place: Place,
 ) -> u8 {
     let Place { dir, flash } = place;
     let Ok(copy) = dir.clone() else {
-        return no_memory(rt);
+        return program::no_memory(rt);
     };
     let notes = Notes::new();
     let kind = match flash {
@@ -253,6 +290,7 @@ fn done<R: Files<File = File> + AllocGlobal + Print + Screen>(
         let ended = Ended {
             status,
             dir: dir.as_str(),
+            words,
             flash,
             takes_lines: false,
             lists: false,
@@ -263,7 +301,7 @@ fn done<R: Files<File = File> + AllocGlobal + Print + Screen>(
             source: None,
             sink,
         };
-        let _ = say_end(rt, alloc, &ended);
+        let _ = say(rt, alloc, &ended);
     }
     status
 }

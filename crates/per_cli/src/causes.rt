@@ -1,16 +1,39 @@
 //! Why a run ended, in one line on standard error. It is said after the run and changes nothing of it, and no clause
 //! speaks of it: each line is tested.
 
-use crate::folders::{has_folder, typed_option};
-use crate::saying::{Screen, say, say_command, say_stream};
-use std::alloc::Global;
+use crate::saying::{Screen, say as say_line, say_command, typed_option};
+use per_reasons::{dots_after, text_shown};
+use per_run::{WordsError, read_words};
+use per_words::{is_line_word, options_in, unknown_in};
+use std::alloc::{AllocError, Global};
 use std::rt::Files;
 use std::{fmt, fs, io};
 use system_model::{Asked, Failure};
 
+/// What is said of invalid arguments.
+const USAGE: &str = "usage: per --dir DIR [--flash N] [--serve | --format | --generate N | --audit |
+           --export A:S | --import A:S | --list FORM | --recover-root A]
+       per WORD .. --dir DIR [--flash N] [-- ..], where WORD is one of
+           ls dump restore recover-root install update status finish rollback
+           wipe get set get-as keys exists remove remove-all recover-key
+           reset-key cat put files file-exists size-of info delete recover-file
+           reset-file recover-storage reset-storage
+       per --help, --version or --demo";
+
+/// The options with a value, and what they take.
+const VALUES: [(&str, &str); 7] = [
+    ("--dir", "a folder"),
+    ("--flash", "a number of blocks, 4 to 4096"),
+    ("--generate", "a number, 1 to 100000"),
+    ("--export", "an application, 0 to 7, and a storage, as 0:k"),
+    ("--import", "an application, 0 to 7, and a storage, as 0:k"),
+    ("--list", "lines or json"),
+    ("--recover-root", "an application, 0 to 7"),
+];
+
 /// Why calls of the disk failed.
 #[derive(Clone, Copy, Debug)]
-pub enum Fault {
+pub(crate) enum Fault {
     /// The last call of the system that failed.
     System(Failure),
     /// The disk over the flash takes no more.
@@ -31,33 +54,31 @@ impl fmt::Display for Fault {
 
 /// What is known of a run that ended.
 #[derive(Clone, Copy)]
-pub struct Ended<'a> {
-    /// The status with which it ended.
-    pub status: u8,
-    /// The folder that it was over.
-    pub dir: &'a str,
+pub(crate) struct Ended<'a> {
+    pub(crate) status: u8,
+    pub(crate) dir: &'a str,
+    /// The arguments of the run.
+    pub(crate) words: &'a [String],
     /// How many blocks the flash has, where the folder is to hold one.
-    pub flash: Option<u32>,
+    pub(crate) flash: Option<u32>,
     /// Whether the lines of the input were to be handled.
-    pub takes_lines: bool,
+    pub(crate) takes_lines: bool,
     /// Whether what is in the folder was to be said.
-    pub lists: bool,
+    pub(crate) lists: bool,
     /// Whether a file of the disk or of the flash is in the folder.
-    pub has_files: bool,
+    pub(crate) has_files: bool,
     /// Whether it was said that none is.
-    pub is_told: bool,
+    pub(crate) is_told: bool,
     /// Whether a line of an audit says that something is damaged or lost.
-    pub has_damage: bool,
-    /// Why the disk failed last.
-    pub disk: Option<Fault>,
-    /// Why the input did.
-    pub source: Option<io::Error>,
-    /// Why the output did.
-    pub sink: Option<io::Error>,
+    pub(crate) has_damage: bool,
+    /// The last calls that failed.
+    pub(crate) disk: Option<Fault>,
+    pub(crate) source: Option<io::Error>,
+    pub(crate) sink: Option<io::Error>,
 }
 
 /// Says why a command was answered by error 4.
-pub fn say_answered<R: Files + Screen>(
+pub(crate) fn say_answered<R: Files + Screen>(
     rt: &R,
     alloc: Global,
     dir: &str,
@@ -76,7 +97,7 @@ pub fn say_answered<R: Files + Screen>(
 }
 
 /// Says that a folder is not formatted, since files of others are in it.
-pub fn say_foreign<R: Screen>(
+pub(crate) fn say_foreign<R: Screen>(
     rt: &R,
     alloc: Global,
     dir: &str,
@@ -96,10 +117,11 @@ pub fn say_foreign<R: Screen>(
 
 /// Says why a run ended where its status is not 0. At status 0 it says that a folder is not there or was not formatted,
 /// since every command but `now` and `wipe` is then refused, and why commands of a synthetic workload were answered by
-/// error 4. Of status 1 it says nothing: why arguments are invalid shows in them.
-pub fn say_end<R: Files + Screen>(rt: &R, alloc: Global, ended: &Ended<'_>) -> io::Result<()> {
+/// error 4.
+pub(crate) fn say<R: Files + Screen>(rt: &R, alloc: Global, ended: &Ended<'_>) -> io::Result<()> {
     match ended.status {
         0 => say_of_answers(rt, alloc, ended),
+        1 => say_usage(rt, alloc, ended.words),
         2 => rt.eprintln(
             "per: a line is outside the grammar; the last reply has its number (per --help)",
         ),
@@ -123,7 +145,7 @@ pub fn say_end<R: Files + Screen>(rt: &R, alloc: Global, ended: &Ended<'_>) -> i
             let line = format!(in alloc;
                 "per: the flash in {dir} cannot be opened: it holds more pages of files than its blocks may, or no block is spare"
             );
-            say(rt, alloc, line)
+            say_line(rt, alloc, line)
         }
         11 => say_of_size(rt, alloc, ended),
         _ => Ok(()),
@@ -134,14 +156,14 @@ pub fn say_end<R: Files + Screen>(rt: &R, alloc: Global, ended: &Ended<'_>) -> i
 fn say_of_device<R: Files + Screen>(rt: &R, alloc: Global, ended: &Ended<'_>) -> io::Result<()> {
     let dir = ended.dir;
     if is_other(rt, dir) {
-        return say(rt, alloc, format!(in alloc; "per: {dir} is no folder"));
+        return say_line(rt, alloc, format!(in alloc; "per: {dir} is no folder"));
     }
     if !has_folder(rt, dir) {
         return say_no_folder(rt, alloc, dir);
     }
     if is_held(ended) {
         let line = format!(in alloc; "per: the folder {dir} is in use by another run");
-        return say(rt, alloc, line);
+        return say_line(rt, alloc, line);
     }
     let what = if is_sync(ended) {
         "the disk failed, and the system is to be restarted before the next run"
@@ -149,6 +171,119 @@ fn say_of_device<R: Files + Screen>(rt: &R, alloc: Global, ended: &Ended<'_>) ->
         "the disk failed"
     };
     say_failure(rt, alloc, what, dir, ended.disk)
+}
+
+/// Says what is wrong with the arguments, and which there are.
+fn say_usage<R: Screen>(rt: &R, alloc: Global, words: &[String]) -> io::Result<()> {
+    if let Some(why) = wrong_words(alloc, words)? {
+        say_line(rt, alloc, format!(in alloc; "per: {why}"))?;
+    }
+    rt.eprintln(USAGE)
+}
+
+/// What is wrong with the arguments of a run: the folder begins with a dash, one is none of these, a value is none of
+/// its option, the folder is not named, or two do not stand together.
+fn wrong_words(alloc: Global, words: &[String]) -> Result<Option<String>, AllocError> {
+    let options = options_in(alloc, words)?;
+    if let Some(why) = dashed_folder(alloc, options.as_slice())? {
+        return Ok(Some(why));
+    }
+    if let Some(word) = unknown_in(words) {
+        return none_of_these(alloc, word);
+    }
+    for (option, takes) in VALUES.iter() {
+        if has_wrong_value(alloc, words, option)? {
+            return Ok(Some(format!(in alloc; "{option} takes {takes}")?));
+        }
+    }
+    let why = if words.iter().any(|word| is_option(word, "--dir")) {
+        "two of these options do not stand together"
+    } else {
+        "what is missing is --dir DIR"
+    };
+    Ok(Some(String::from_str(alloc, why)?))
+}
+
+/// How a folder is typed whose name begins with a dash, where one stands after its option.
+pub(crate) fn dashed_folder(
+    alloc: Global,
+    options: &[String],
+) -> Result<Option<String>, AllocError> {
+    for pair in options.windows(2) {
+        match pair {
+            [option, dir] if option.as_str() == "--dir" && is_dashed(dir) => {
+                let typed = typed_option(alloc, dir.as_str())?;
+                return Ok(Some(format!(in alloc;
+                    "--dir takes a folder, and one that begins with a dash as {typed}"
+                )?));
+            }
+            _ => {}
+        }
+    }
+    Ok(None)
+}
+
+fn is_dashed(word: &String) -> bool {
+    word.as_bytes().starts_with(b"-")
+}
+
+/// That the word is none of these arguments, where it can be shown, or where alone it stands.
+pub(crate) fn none_of_these(alloc: Global, word: &[u8]) -> Result<Option<String>, AllocError> {
+    let dots = dots_after(word);
+    match text_shown(word) {
+        Some("") | None => Ok(None),
+        Some("--demo") => Ok(Some(String::from_str(alloc, "--demo stands alone")?)),
+        Some("--json") => Ok(Some(String::from_str(alloc, "--json stands beside ls alone")?)),
+        Some(text) if is_line_word(word) => Ok(Some(format!(in alloc;
+            "{text} is a call of a line: ./per --dir DIR handles lines"
+        )?)),
+        Some(word) => Ok(Some(format!(in alloc; "{word}{dots} is none of these")?)),
+    }
+}
+
+/// Whether the option stands among the arguments with a value that it does not take, or without one. The value is tried
+/// as that of the option alone.
+fn has_wrong_value(alloc: Global, words: &[String], option: &str) -> Result<bool, AllocError> {
+    for (at, word) in words.iter().enumerate() {
+        if is_option(word, option) {
+            let value = words.get(at.saturating_add(1));
+            let tried = words_tried(alloc, word, value, option)?;
+            match read_words(alloc, tried.as_slice()) {
+                Ok(_) => {}
+                Err(WordsError::Refused) => return Ok(true),
+                Err(WordsError::OutOfMemory) => return Err(AllocError),
+            }
+        }
+    }
+    Ok(false)
+}
+
+/// The arguments that a value is tried in: its option, and a folder where that is another one.
+fn words_tried(
+    alloc: Global,
+    word: &String,
+    value: Option<&String>,
+    option: &str,
+) -> Result<Vec<String>, AllocError> {
+    let mut tried = Vec::new(alloc);
+    if option != "--dir" {
+        tried.push(String::from_str(alloc, "--dir=.")?)?;
+    }
+    tried.push(word.clone()?)?;
+    if word.as_str() == option {
+        if let Some(value) = value {
+            tried.push(value.clone()?)?;
+        }
+    }
+    Ok(tried)
+}
+
+/// Whether the word is this option, with its value after an equals sign or not.
+fn is_option(word: &String, option: &str) -> bool {
+    match word.as_bytes().strip_prefix(option.as_bytes()) {
+        Some([]) | Some([b'=', ..]) => true,
+        _ => false,
+    }
 }
 
 fn say_of_answers<R: Files + Screen>(rt: &R, alloc: Global, ended: &Ended<'_>) -> io::Result<()> {
@@ -182,7 +317,7 @@ fn say_of_size<R: Screen>(rt: &R, alloc: Global, ended: &Ended<'_>) -> io::Resul
             "per: the flash in {dir} cannot be opened: it has fewer than 4 blocks, or more than 4096"
         ),
     };
-    say(rt, alloc, line)
+    say_line(rt, alloc, line)
 }
 
 /// Whether another run holds the folder.
@@ -204,7 +339,7 @@ fn is_sync(ended: &Ended<'_>) -> bool {
 }
 
 /// Explains that a folder with no file of the disk or of the flash is not formatted, or not there.
-pub fn say_of_folder<R: Files + Screen>(
+pub(crate) fn say_of_folder<R: Files + Screen>(
     rt: &R,
     alloc: Global,
     dir: &str,
@@ -227,7 +362,7 @@ pub fn say_of_folder<R: Files + Screen>(
 
 fn say_no_folder<R: Screen>(rt: &R, alloc: Global, dir: &str) -> io::Result<()> {
     let line = format!(in alloc; "per: there is no folder {dir}");
-    say(rt, alloc, line)
+    say_line(rt, alloc, line)
 }
 
 fn say_failure<R: Screen>(
@@ -241,7 +376,20 @@ fn say_failure<R: Screen>(
         Some(fault) => format!(in alloc; "per: {what}: {fault} in {dir}"),
         None => format!(in alloc; "per: {what} in {dir}"),
     };
-    say(rt, alloc, line)
+    say_line(rt, alloc, line)
+}
+
+pub(crate) fn say_stream<R: Screen>(
+    rt: &R,
+    alloc: Global,
+    name: &str,
+    error: Option<io::Error>,
+) -> io::Result<()> {
+    let line = match error {
+        Some(error) => format!(in alloc; "per: {name} failed: {error}"),
+        None => format!(in alloc; "per: {name} failed"),
+    };
+    say_line(rt, alloc, line)
 }
 
 /// Whether something else than a folder has the name, as far as the system says.
@@ -250,4 +398,9 @@ fn is_other<R: Files>(rt: &R, dir: &str) -> bool {
         Ok(found) => !found.is_dir(),
         Err(_) => false,
     }
+}
+
+/// Whether the folder is there, as far as the system says.
+pub(crate) fn has_folder<R: Files>(rt: &R, dir: &str) -> bool {
+    !matches!(fs::exists(rt, dir), Ok(false))
 }

@@ -19,13 +19,11 @@ const APPLICATIONS: u32 = 8;
 
 /// Where a run is, and with which converters it updates.
 #[derive(Clone, Copy)]
-pub struct Place<'a> {
-    /// The folder.
-    pub dir: &'a str,
+pub(crate) struct Place<'a> {
+    pub(crate) dir: &'a str,
     /// How many blocks the flash has, where the folder is to hold one.
-    pub flash: Option<u32>,
-    /// The converters.
-    pub migrations: &'a Migrations,
+    pub(crate) flash: Option<u32>,
+    pub(crate) migrations: &'a Migrations,
 }
 
 /// For which key or storage the update in this line was answered so, in words. An update that was refused changed

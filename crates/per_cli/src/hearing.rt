@@ -1,6 +1,6 @@
 //! What was read of an input, so that the line that a reply answers can be found.
 
-ghost use Rattle.std.specs.Prelude.{◌≡◌, ◌≤◌, length};
+ghost use Rattle.std.specs.Prelude.{◌≤◌, length};
 
 use command_text::LINE_BYTES;
 use memchr::memrchr;
@@ -11,7 +11,7 @@ use std::io::{self, Read};
 /// The part of the input that was read last, with the line before it that it goes on with, and how far its lines are
 /// answered.
 #[derive(Drop)]
-pub struct LastRead {
+pub(crate) struct LastRead {
     text: RefCell<Vec<u8>>,
     /// Where the last part begins in the text.
     part: Cell<usize>,
@@ -24,8 +24,7 @@ pub struct LastRead {
 }
 
 impl LastRead {
-    /// Nothing was read yet.
-    pub fn new(alloc: Global) -> LastRead {
+    pub(crate) fn new(alloc: Global) -> LastRead {
         LastRead {
             text: RefCell::new(Vec::new(alloc)),
             part: Cell::new(0),
@@ -63,9 +62,7 @@ impl LastRead {
     }
 
     /// The line of the text that is answered next. Of one that is too long no more is given than shows that.
-    pub(crate) fn next_line<'t>(&self, text: &'t [u8]) -> &'t [u8]
-        ensures { length result.now ≤ 262_145 }
-    {
+    pub(crate) fn next_line<'t>(&self, text: &'t [u8]) -> &'t [u8] {
         let mut place = self.place.get();
         let mut answered = self.answered.get();
         for line in text
@@ -116,30 +113,15 @@ fn is_answered(line: &[u8]) -> bool {
     }
 }
 
-/// An input of which each part that is read is noted, where it has lines. What it gives is what the input gave.
+/// An input of which each part that is read is noted, where it has lines.
 #[derive(Drop)]
-pub struct NotedInput<'a, I: Read + Drop> {
-    input: I,
-    has_lines: bool,
-    last: &'a LastRead,
-}
-
-impl<'a, I: Read + Drop> NotedInput<'a, I> {
-    /// This input; where it has lines, what is read of it from then on is noted in `last`.
-    pub fn new(input: I, has_lines: bool, last: &'a LastRead) -> NotedInput<'a, I>
-        ensures { result.input ≡ input }
-    {
-        NotedInput {
-            input,
-            has_lines,
-            last,
-        }
-    }
+pub(crate) struct NotedInput<'a, I: Read + Drop> {
+    pub(crate) input: I,
+    pub(crate) has_lines: bool,
+    pub(crate) last: &'a LastRead,
 }
 
 impl<'a, I: Read + Drop> Read for NotedInput<'a, I> {
-    ghost remaining = { λ noted. I.remaining noted.input };
-
     fn read(&mut self, out: &mut [u8]) -> io::Result<usize> {
         let count = self.input.read(out)?;
         if self.has_lines {

@@ -1,12 +1,14 @@
 //! What a person gets who asks for help.
 
-ghost use Rattle.std.specs.Prelude.{◌≡◌, ◌⊎◌};
-
-use crate::saying::{Screen, say, say_stream};
-use crate::statuses::NO_OUTPUT;
+use crate::NO_OUTPUT;
+use crate::causes::say_stream;
+use crate::saying::{Screen, say};
 use per_words::{Needed, column_after, flaw_in, is_line_word, row_word, rows_of};
 use std::alloc::{AllocError, Global};
 use std::io::{self, Write};
+
+/// The version of the sources.
+const VERSION: &str = "0.23.0";
 
 /// A column after which no word stands.
 const FULL: usize = 80;
@@ -262,17 +264,13 @@ const STATUS: &str = "Status
 ";
 
 /// Writes the help, and gives the status.
-pub fn show_help<R: Print + Screen>(rt: &R, alloc: Global) -> u8
-    ensures { (result ≡ 0) ⊎ (result ≡ 6) }
-{
+pub(crate) fn show<R: Print + Screen>(rt: &R, alloc: Global) -> u8 {
     status_of(rt, alloc, written(rt))
 }
 
-/// Writes which version of the program this is, and gives the status.
-pub fn show_version<R: Print + Screen>(rt: &R, alloc: Global, version: &str) -> u8
-    ensures { (result ≡ 0) ⊎ (result ≡ 6) }
-{
-    status_of(rt, alloc, println!(rt; "per {version}"))
+/// Writes the version, and gives the status.
+pub(crate) fn show_version<R: Print + Screen>(rt: &R, alloc: Global) -> u8 {
+    status_of(rt, alloc, println!(rt; "per {VERSION}"))
 }
 
 fn written(rt: &impl Print) -> io::Result<()> {
@@ -284,9 +282,7 @@ fn written(rt: &impl Print) -> io::Result<()> {
 }
 
 /// The status, where this was written or not, which is then said.
-fn status_of<R: Screen>(rt: &R, alloc: Global, written: io::Result<()>) -> u8
-    ensures { (result ≡ 0) ⊎ (result ≡ 6) }
-{
+fn status_of<R: Screen>(rt: &R, alloc: Global, written: io::Result<()>) -> u8 {
     match written {
         Ok(()) => 0,
         Err(error) => {

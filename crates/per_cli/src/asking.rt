@@ -1,17 +1,17 @@
 //! The lines of a person at a terminal.
 
-use crate::help::show_asked;
+use crate::help;
 use crate::saying::{Screen, say};
 use command_text::{LineError, parse_line};
 use per_reasons::why_no_line;
 use per_words::{call_shown, help_asked};
-use std::alloc::{AllocError, Global};
+use std::alloc::Global;
 use std::io::{self, BufRead, Input, Read};
 
 /// An input that asks for each line, and again for one that is outside the grammar. A line that a run is given is
 /// answered before it asks for the next.
 #[derive(Drop)]
-pub struct Asking<'a, R: Input + Print + Screen> {
+pub(crate) struct Asking<'a, R: Input + Print + Screen> {
     rt: &'a R,
     alloc: Global,
     /// The application and the call of the last line that has them.
@@ -23,9 +23,7 @@ pub struct Asking<'a, R: Input + Print + Screen> {
 }
 
 impl<'a, R: Input + Print + Screen> Asking<'a, R> {
-    /// An input that has asked for no line yet. No clause is needed: all that a caller relies on are the laws of a
-    /// reader.
-    pub fn new(rt: &'a R, alloc: Global) -> Asking<'a, R> {
+    pub(crate) fn new(rt: &'a R, alloc: Global) -> Asking<'a, R> {
         Asking {
             rt,
             alloc,
@@ -75,16 +73,16 @@ impl<'a, R: Input + Print + Screen> Asking<'a, R> {
     fn is_accepted(&self) -> io::Result<bool> {
         let line = typed(self.line.as_slice());
         if let Some(word) = help_asked(line) {
-            show_asked(self.rt, self.alloc, word)?;
+            help::show_asked(self.rt, self.alloc, word)?;
             return Ok(false);
         }
-        match is_line(self.alloc, line) {
-            Ok(true) => Ok(true),
-            Ok(false) => {
+        match parse_line(self.alloc, line) {
+            Ok(_) => Ok(true),
+            Err(LineError::NotALine) => {
                 let _ = self.say_flaw(line);
                 Ok(false)
             }
-            Err(_) => Err(io::Error::from(io::ErrorKind::OutOfMemory)),
+            Err(LineError::OutOfMemory) => Err(io::Error::from(io::ErrorKind::OutOfMemory)),
         }
     }
 
@@ -98,15 +96,6 @@ impl<'a, R: Input + Print + Screen> Asking<'a, R> {
             ),
             Ok(None) | Err(_) => self.rt.eprintln("per: no line; try help"),
         }
-    }
-}
-
-/// Whether the text is a line of the grammar.
-fn is_line(alloc: Global, text: &[u8]) -> Result<bool, AllocError> {
-    match parse_line(alloc, text) {
-        Ok(_) => Ok(true),
-        Err(LineError::NotALine) => Ok(false),
-        Err(LineError::OutOfMemory) => Err(AllocError),
     }
 }
 

@@ -54,16 +54,13 @@ fn element_length(alloc: Global, element: &Fresh) -> Result<u64, AllocError> {
     let name = string_length(element.name.as_str().as_bytes());
     let bytes = element.bytes.as_slice();
     if element.info.is_some() {
-        return Ok(
-            name.saturating_add(digits_length(bytes))
-                .saturating_add(FILE_BYTES),
-        );
+        let digits = 2 * (bytes.len() as u64);
+        return Ok(name.saturating_add(digits).saturating_add(FILE_BYTES));
     }
     match decode(alloc, bytes) {
-        Ok(value) => Ok(
-            name.saturating_add(node_length(value.node()))
-                .saturating_add(KEY_BYTES),
-        ),
+        Ok(value) => Ok(name
+            .saturating_add(node_length(value.node()))
+            .saturating_add(KEY_BYTES)),
         Err(DecodeError::NotAValue) => Ok(name),
         Err(DecodeError::OutOfMemory) => Err(AllocError),
     }
@@ -83,7 +80,7 @@ fn node_length(node: &Node) -> u64 {
         Node::I32(_) => 15,
         Node::U64(_) | Node::I64(_) => 24,
         Node::Text(text) => text_length(text.as_str().as_bytes()).saturating_add(9),
-        Node::Bytes(bytes) => digits_length(bytes.as_slice()).saturating_add(6),
+        Node::Bytes(bytes) => 2 * (bytes.len() as u64) + 6,
         Node::List(item, items) => type_length(item)
             .saturating_add(nodes_length(items.as_slice()))
             .saturating_add(8),
@@ -116,19 +113,12 @@ fn type_length(value_type: &ValueType) -> u64 {
 fn types_length(types: &[ValueType]) -> u64 {
     let mut length: u64 = 0;
     for value_type in types {
-        length = length
-            .saturating_add(type_length(value_type))
-            .saturating_add(1);
+        length = length.saturating_add(type_length(value_type)).saturating_add(1);
     }
     length
 }
 
 // ---- strings
-
-/// How many bytes the digits of bytes take.
-fn digits_length(bytes: &[u8]) -> u64 {
-    (bytes.len() as u64).saturating_mul(2)
-}
 
 /// How many bytes a text of a value takes, which is escaped as one and in the string.
 fn text_length(text: &[u8]) -> u64 {

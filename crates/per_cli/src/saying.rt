@@ -1,15 +1,12 @@
 //! What is said on standard error: lines, which are broken between their words where a screen shows them. Whatever an
 //! argument or a text has, no line that is said begins a row within it or moves the cursor.
 
-ghost use Rattle.std.specs.Prelude.{◌≡◌};
-
-use crate::statuses::NO_MEMORY;
-use per_words::{broken, visible};
+use per_words::{are_visible, broken, dir_option, quoted, visible};
 use std::alloc::{AllocError, Global};
 use std::io::{self, IsTerminal};
 
 /// A standard error, which a screen may show, and a standard input, which may be typed.
-pub trait Screen: Eprint {
+pub(crate) trait Screen: Eprint {
     /// Whether a screen shows standard error.
     fn has_screen(&self) -> bool;
 
@@ -28,15 +25,39 @@ impl Screen for HostRuntime {
 }
 
 /// Says by this line what is awaited on standard input, where a person is to type it.
-pub fn say_awaited<R: Screen>(rt: &R, line: &str) {
+pub(crate) fn say_awaited<R: Screen>(rt: &R, line: &str) {
     if rt.is_typed() {
         let _ = rt.eprintln(line);
     }
 }
 
+/// The name of a folder as it is typed in a shell; `DIR` for one that no screen shows.
+pub(crate) fn typed(alloc: Global, dir: &str) -> Result<String, AllocError> {
+    if !are_visible(dir) {
+        return String::from_str(alloc, "DIR");
+    }
+    let word = quoted(alloc, dir.as_bytes())?;
+    match str::from_utf8(word.as_slice()) {
+        Ok(word) => String::from_str(alloc, word),
+        Err(_) => String::from_str(alloc, dir),
+    }
+}
+
+/// The option that names a folder, as it is typed in a shell.
+pub(crate) fn typed_option(alloc: Global, dir: &str) -> Result<String, AllocError> {
+    if !are_visible(dir) {
+        return String::from_str(alloc, "--dir=DIR");
+    }
+    let option = dir_option(alloc, dir.as_bytes())?;
+    match str::from_utf8(option.as_slice()) {
+        Ok(option) => String::from_str(alloc, option),
+        Err(_) => format!(in alloc; "--dir={dir}"),
+    }
+}
+
 /// Says a line with a command on this folder. Where the folder's name has a space the line is not broken: with a break
 /// within the name the command could not be copied.
-pub fn say_command<R: Screen>(
+pub(crate) fn say_command<R: Screen>(
     rt: &R,
     alloc: Global,
     dir: &str,
@@ -46,7 +67,11 @@ pub fn say_command<R: Screen>(
 }
 
 /// Says a line, if there was memory for it.
-pub fn say<R: Screen>(rt: &R, alloc: Global, line: Result<String, AllocError>) -> io::Result<()> {
+pub(crate) fn say<R: Screen>(
+    rt: &R,
+    alloc: Global,
+    line: Result<String, AllocError>,
+) -> io::Result<()> {
     say_rows(rt, alloc, line, false)
 }
 
@@ -66,26 +91,4 @@ fn say_rows<R: Screen>(
         Ok(rows) => rt.eprintln(rows),
         Err(_) => rt.eprintln(line.as_str()),
     }
-}
-
-/// Says that a standard stream of this name failed, and why, where that is known.
-pub fn say_stream<R: Screen>(
-    rt: &R,
-    alloc: Global,
-    name: &str,
-    error: Option<io::Error>,
-) -> io::Result<()> {
-    let line = match error {
-        Some(error) => format!(in alloc; "per: {name} failed: {error}"),
-        None => format!(in alloc; "per: {name} failed"),
-    };
-    say(rt, alloc, line)
-}
-
-/// Says that memory ran out before the top call, and gives the status.
-pub fn no_memory<R: Eprint>(rt: &R) -> u8
-    ensures { result ≡ 4 }
-{
-    let _ = rt.eprintln("per: memory ran out");
-    NO_MEMORY
 }
