@@ -1,5 +1,5 @@
 -- A change of one element adds at most that element.
-use Rattle.std.proofs.Common.{◌≡◌, ℕ, suc, ◌+◌, ◌<◌, ◌≤◌, List, [], ◌∷◌, length, refl, inl, inr, arith}
+use Rattle.std.proofs.Common.{◌≡◌, ℕ, suc, ◌+◌, ◌<◌, ◌≤◌, List, [], ◌∷◌, length, refl, sym, subst, inl, inr, arith}
 use Rattle.std.specs.Prelude.{sum_by}
 use Rattle.std.specs.List.{IsDistinct}
 use Rattle.std.specs.Str.{bytes_eq}
@@ -9,8 +9,8 @@ use Rattle.std.proofs.lemmas.List.Sums.{sum_by-cons}
 use Rattle.per_base.specs.declared.elements.Entry.{Entry}
 use Rattle.per_base.specs.declared.elements.Fresh.{Fresh}
 use Rattle.per_base.specs.Names.{name_cmp}
-use Rattle.per_base.specs.declared.elements.Change.{Change}
-use Rattle.per_base.specs.declared.elements.Change.TheVariants.{Put, Remove, Touch}
+use Rattle.per_base.specs.declared.elements.Change.TheVariants.{Put}
+use Rattle.per_base.specs.declared.elements.StoreKind.{StoreKind}
 use Rattle.index_text.specs.lemmas.Order.{sorted_from_ascends}
 use Rattle.element_state.specs.declared.shapes.Shape.{Shape}
 use Rattle.element_state.specs.declared.shapes.View.{View}
@@ -18,7 +18,9 @@ use Rattle.element_state.specs.Changes.{insert_item, without_item, entry_name}
 use Rattle.index_text.specs.Contents.{AreContents, SuitsKind}
 use Rattle.element_state.specs.Conditions.{AreCommittable, size_of}
 use Rattle.element_state.specs.States.{fresh_entry, fresh_element, greatest_generation}
+use Rattle.base_tests.specs.declared.plans.Plan.{Plan}
 use Rattle.base_tests.specs.Single.{IsAddition}
+use Rattle.base_tests.specs.Usage.{IsPlanned}
 
 -- what an element counts
 abbrev weight : Entry → ℕ
@@ -55,12 +57,13 @@ length_without name (g ∷ fs) = elim (cases_Bool (bytes_eq g.name name)) [
   | inr n ↦ rw n (let a = length_without name fs in omega (arith, a))
 ]
 
--- one change that the storage can take is a commit's
-pub one_change : (shape : Shape) (v : View) (change : Change) → IsAddition shape (size_of v.entries) change
+-- another content that the storage can take is a commit's
+pub one_change : (plan : Plan) (shape : Shape) (v : View) (f : Fresh) → IsPlanned plan shape
+    → IsAddition plan.kind plan.allowed (size_of v.entries) f
     → length v.entries < 1024
-    → v.generation < greatest_generation → AreCommittable shape v (change ∷ [])
+    → v.generation < greatest_generation → AreCommittable shape v (Put f ∷ [])
 unfolding IsDistinct
-one_change shape v (Put f) fits few not_worn =
+one_change plan shape v f planned fits few not_worn =
     let new : Entry = fresh_entry (v.generation + 1) (fresh_element f) in
     let rest : List Entry = without_item entry_name f.name v.entries in
     let a = size_insert new rest in
@@ -69,30 +72,20 @@ one_change shape v (Put f) fits few not_worn =
     let d = length_without f.name v.entries in
     let small = fits.1 in
     record {
-      each = (fits.0, tt);
+      each = (subst (λ (kind : StoreKind). SuitsKind kind f) (sym planned.0) fits.0, tt);
       names_apart = (tt, tt);
       few = omega (arith, c, d);
-      small = omega (arith, a, b, small);
+      small = omega (arith, a, b, small, planned.1);
       not_worn = not_worn;
     }
-one_change shape v (Remove name) fits few not_worn =
-    let b = size_without name v.entries in
-    let d = length_without name v.entries in
-    record {
-      each = (tt, tt);
-      names_apart = (tt, tt);
-      few = omega (arith, d);
-      small = omega (arith, b, fits);
-      not_worn = not_worn;
-    }
-one_change shape v (Touch name info) fits few not_worn = absurd fits
 
 -- one element that fits is all that a storage is made with
-pub one_content : (shape : Shape) (f : Fresh) → SuitsKind shape.kind f → length f.name + length f.bytes ≤ shape.allowed
-    → AreContents shape.kind shape.allowed (f ∷ [])
-one_content shape f fresh small = let sum = sum_by-cons (λ (f : Fresh). length f.name + length f.bytes) f [] in record {
-  each = (fresh, tt);
-  names_ascend = sorted_from_ascends (f.name ∷ []) refl;
-  few = omega arith;
-  small = omega (arith, small, sum);
-}
+pub one_content : (kind : StoreKind) (allowed : ℕ) (f : Fresh) → IsAddition kind allowed 0 f
+    → AreContents kind allowed (f ∷ [])
+one_content kind allowed f fits = let sum = sum_by-cons (λ (f : Fresh). length f.name + length f.bytes) f [] in
+    let small = fits.1 in record {
+      each = (fits.0, tt);
+      names_ascend = sorted_from_ascends (f.name ∷ []) refl;
+      few = omega arith;
+      small = omega (arith, small, sum);
+    }

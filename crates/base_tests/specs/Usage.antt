@@ -1,15 +1,16 @@
--- What holds between two words of a session.
-use Rattle.std.specs.Prelude.{◌≡◌, true, ⊤}
+-- What holds between two words of a course.
+use Rattle.std.specs.Prelude.{◌≡◌, true, IfSome}
 use Rattle.disk_model.specs.Memory.{mem_medium}
+use Rattle.element_state.specs.declared.shapes.Shape.{Shape}
 use Rattle.element_store.specs.Stores.{IsUsed, store_shape}
-use Rattle.base_tests.specs.declared.usage.InUse.{InUse}
+use Rattle.base_tests.specs.declared.plans.Plan.{Plan}
 use Rattle.base_tests.specs.declared.usage.Kept.{Kept}
-use Rattle.base_tests.specs.declared.usage.Kept.TheVariants.{Closed, Open}
 
--- the storage is in use on its disk, and kept as it says
-abbrev pub IsStoreInUse : InUse → Type 0
-IsStoreInUse kept = IsUsed true (mem_medium kept.disk).image kept.store × (store_shape kept.store ≡ kept.shape)
+-- a storage is of the kind and the size that are planned
+abbrev pub IsPlanned : Plan → Shape → Type 0
+IsPlanned plan shape = (shape.kind ≡ plan.kind) × (shape.allowed ≡ plan.allowed)
 
+-- a storage that is in use is on its disk, and kept as planned
 abbrev pub IsKeptStore : Kept → Type 0
-IsKeptStore (Closed disk) = ⊤
-IsKeptStore (Open kept) = IsStoreInUse kept
+IsKeptStore kept = IfSome kept.store (λ store. IsUsed true (mem_medium kept.disk).image store
+    × IsPlanned kept.plan (store_shape store))

@@ -97,7 +97,9 @@ fn twice_silent(alloc: Global) -> Result<String, CaseError> {
 fn twice_in_memory(alloc: Global) -> Result<String, CaseError> {
     let mut disk = MemDisk::new(alloc);
     let said = written(&mut disk);
-    let size = disk.size(3)?;
+    let size = disk.size(3);
     let count = disk.written();
+    drop(disk);
+    let size = size?;
     Ok(format!(in alloc; "{said} {size} {count}")?)
 }

@@ -2,7 +2,7 @@
 
 ghost use Rattle.std.specs.Prelude.{◌≤◌, length};
 
-use block_files::{Blob, BlobError, BlockSet, get_blob, put_blob, put_shared};
+use block_files::{Blob, BlobError, BlockSet, PutBlob, get_blob, put_blob, put_shared};
 use case_words::{CaseError, bytes_of, cut, numbers_text, small};
 use disk_model::{MemDisk, Place};
 use per_base::Bytes;
@@ -29,7 +29,9 @@ pub fn content(alloc: Global, words: &str) -> Result<String, CaseError> {
         return Err(CaseError::NoCase);
     }
     let blob = put_and_get(alloc, place, m, &bytes)?;
-    described(alloc, &blob, &bytes)
+    let said = described(alloc, &blob, &bytes);
+    drop(blob);
+    said
 }
 
 // Puts the bytes into fresh blocks and reads them back.
@@ -37,19 +39,32 @@ fn put_and_get(alloc: Global, place: Place, m: u32, bytes: &[u8]) -> Result<Blob
     requires m { 1 ≤ m }
     requires few { length bytes.now ≤ 1048576 }
 {
-    let mut disk = MemDisk::new(alloc);
     let mut used = BlockSet::new(alloc, 4096)?;
-    let put = put_blob(alloc, &mut disk, place, &mut used, bytes)?;
-    let blob = get_blob(
-        alloc,
-        &mut disk,
-        place,
-        put.blocks.as_slice(),
-        bytes.len() as u32,
-        &put.hash,
-        m,
-    )?;
-    Ok(blob)
+    let mut disk = MemDisk::new(alloc);
+    let put = put_blob(alloc, &mut disk, place, &mut used, bytes);
+    drop(used);
+    let blob = match put {
+        Ok(put) => got(alloc, &mut disk, place, m, put, bytes.len() as u32),
+        Err(error) => Err(error),
+    };
+    drop(disk);
+    blob
+}
+
+// Reads back what was put.
+fn got(
+    alloc: Global,
+    disk: &mut MemDisk,
+    place: Place,
+    m: u32,
+    put: PutBlob,
+    len: u32,
+) -> Result<Blob, BlobError>
+    requires { 1 ≤ m }
+{
+    let blob = get_blob(alloc, disk, place, put.blocks.as_slice(), len, &put.hash, m);
+    drop(put);
+    blob
 }
 
 fn described(alloc: Global, blob: &Blob, bytes: &[u8]) -> Result<String, CaseError> {
@@ -87,11 +102,26 @@ fn put_beside(alloc: Global, place: Place, old: &[u8], new: &[u8]) -> Result<Str
     requires new { length new.now ≤ 1048576 }
 {
     let mut disk = MemDisk::new(alloc);
+    let said = put_beside_on(alloc, &mut disk, place, old, new);
+    drop(disk);
+    said
+}
+
+fn put_beside_on(
+    alloc: Global,
+    disk: &mut MemDisk,
+    place: Place,
+    old: &[u8],
+    new: &[u8],
+) -> Result<String, CaseError>
+    requires old { length old.now ≤ 1048576 }
+    requires new { length new.now ≤ 1048576 }
+{
     let mut used = BlockSet::new(alloc, 8192)?;
-    let put = put_blob(alloc, &mut disk, place, &mut used, old)?;
+    let put = put_blob(alloc, disk, place, &mut used, old)?;
     let before = disk.written();
     let old_blocks = put.blocks.as_slice();
-    let again = put_shared(alloc, &mut disk, place, &mut used, new, old, old_blocks)?;
+    let again = put_shared(alloc, disk, place, &mut used, new, old, old_blocks)?;
     let written = disk.written().saturating_sub(before);
     described_beside(alloc, old_blocks, again.blocks.as_slice(), written)
 }

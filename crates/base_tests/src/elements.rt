@@ -6,15 +6,26 @@ ghost use Rattle.base_tests.specs.Single.{IsAddition};
 
 use case_words::{CaseError, bytes_of, cut};
 use element_store::Shape;
-use per_base::{Bytes, Cause, Change, FileInfo, Fresh, Name, PerError, StoreKind};
+use per_base::{Bytes, Cause, FileInfo, Fresh, Name, PerError, StoreKind};
 use std::alloc::Global;
 
-// A name.
-fn name_of(alloc: Global, word: &str) -> Result<Name, CaseError> {
+/// A name.
+pub fn name_of(alloc: Global, word: &str) -> Result<Name, CaseError> {
     match Name::new(alloc, word) {
         Ok(name) => Ok(name),
-        Err(PerError::BadName) => Err(CaseError::NoCase),
-        Err(_) => Err(CaseError::OutOfMemory),
+        Err(error) => Err(case_error(error)),
+    }
+}
+
+// Why a word is no name. Here as elsewhere what has many parts is let go by `drop`: where a function ends with it at
+// hand, each part is let go there, and every part is proved.
+fn case_error(error: PerError) -> CaseError {
+    let is_bad = matches!(&error, PerError::BadName);
+    drop(error);
+    if is_bad {
+        CaseError::NoCase
+    } else {
+        CaseError::OutOfMemory
     }
 }
 
@@ -53,31 +64,22 @@ fn is_of_kind(kind: StoreKind, fresh: &Fresh) -> bool
     }
 }
 
+/// Whether a storage of this kind, which may have so many bytes, takes the element beside others of this size.
+pub fn fits(kind: StoreKind, allowed: u64, size: u64, fresh: &Fresh) -> bool
+    ensures { IsTrue result → IsAddition kind allowed size fresh.now }
+{
+    is_of_kind(kind, fresh)
+        && size <= allowed
+        && fresh.name.as_str().len() as u64 + fresh.bytes.len() as u64 <= allowed - size
+}
+
 /// The element alone, where the storage takes it.
 pub fn alone(alloc: Global, shape: &Shape, fresh: Fresh) -> Result<Vec<Fresh>, CaseError>
     ensures { IfOk result (λ contents. AreContents shape.now.kind shape.now.allowed contents.items) }
 {
-    if !is_of_kind(shape.kind, &fresh) {
-        return Err(CaseError::NoCase);
-    }
-    if fresh.name.as_str().len() as u64 + fresh.bytes.len() as u64 > shape.allowed {
+    if !fits(shape.kind, shape.allowed, 0, &fresh) {
+        drop(fresh);
         return Err(CaseError::NoCase);
     }
     Ok(vec![in alloc; fresh]?)
-}
-
-/// Whether a storage of this size takes the change; only what is put or goes.
-pub fn takes(shape: &Shape, size: u64, change: &Change) -> bool
-    ensures { IsTrue result → IsAddition shape.now size change.now }
-{
-    match change {
-        Change::Put(fresh) => {
-            is_of_kind(shape.kind, fresh)
-                && size <= shape.allowed
-                && fresh.name.as_str().len() as u64 + fresh.bytes.len() as u64
-                    <= shape.allowed - size
-        }
-        Change::Remove(_) => size <= shape.allowed,
-        Change::Touch(_, _) => false,
-    }
 }

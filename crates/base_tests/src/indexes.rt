@@ -11,13 +11,25 @@ pub fn index(alloc: Global, word: &str) -> Result<String, CaseError> {
     let bytes = bytes_of(alloc, word)?;
     match read_index(alloc, &bytes) {
         Ok(index) => {
-            let index = index.copy(alloc)?;
-            let again = write_index(alloc, &index)?;
-            described(alloc, &index, again == bytes)
+            let said = copied(alloc, &index, &bytes);
+            drop(index);
+            said
         }
         Err(IndexError::NotAnIndex) => text(alloc, "refused"),
         Err(IndexError::OutOfMemory) => Err(CaseError::OutOfMemory),
     }
+}
+
+fn copied(alloc: Global, index: &Index, bytes: &[u8]) -> Result<String, CaseError> {
+    let copy = index.copy(alloc)?;
+    let said = spelled(alloc, &copy, bytes);
+    drop(copy);
+    said
+}
+
+fn spelled(alloc: Global, index: &Index, bytes: &[u8]) -> Result<String, CaseError> {
+    let again = write_index(alloc, index)?;
+    described(alloc, index, again.as_slice() == bytes)
 }
 
 fn described(alloc: Global, index: &Index, same: bool) -> Result<String, CaseError> {

@@ -19,6 +19,7 @@ mod elements;
 mod images;
 mod indexes;
 mod plans;
+mod restarts;
 mod runs;
 mod seals;
 mod sessions;

@@ -2,11 +2,13 @@
 
 ghost use Rattle.std.specs.Prelude.{IfOk};
 ghost use Rattle.element_state.specs.Conditions.{IsShape};
+ghost use Rattle.base_tests.specs.Usage.{IsPlanned};
 
+use crate::elements::name_of;
 use case_words::{CaseError, cut, number, small};
 use disk_model::Place;
 use element_store::Shape;
-use per_base::{Name, Scope, StoreKind};
+use per_base::{Scope, StoreKind};
 use std::alloc::Global;
 
 /// How a storage is kept.
@@ -66,7 +68,8 @@ fn scope_of(word: &str) -> Option<Scope> {
 impl Plan {
     /// The storage `fav`, kept so.
     pub fn shape(self, alloc: Global) -> Result<Shape, CaseError>
-        ensures { IfOk result IsShape }
+        ensures shape { IfOk result IsShape }
+        ensures planned { IfOk result (IsPlanned self) }
     {
         if self.copies == 0
             || self.copies > 8
@@ -77,11 +80,8 @@ impl Plan {
         {
             return Err(CaseError::NoCase);
         }
-        let Ok(name) = Name::new(alloc, "fav") else {
-            return Err(CaseError::OutOfMemory);
-        };
         Ok(Shape {
-            name,
+            name: name_of(alloc, "fav")?,
             place: Place {
                 first: self.first,
                 copies: self.copies,

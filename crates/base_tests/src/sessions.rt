@@ -6,18 +6,19 @@ ghost use Rattle.guarded_cell.specs.Cells.{CellAt};
 ghost use Rattle.base_tests.specs.Sessions.{IsRegisterInUse};
 
 use crate::images::complement;
-use crate::runs::restarted;
+use crate::restarts::restart;
 use crate::seals::{Sealing, sealed_text, sealing_of};
+use crate::views::failed;
 use case_words::{
     CaseError, add, bytes_of, bytes_text, cut, number, numbers, numbers_text, small, text,
 };
 use disk_model::{Disk, MemDisk, Place};
-use guarded_cell::{Cell, CellError, Seen, adopt, format_cell, keep_only, look, open_cell};
+use guarded_cell::{
+    Cell, CellError, OpenedCell, Seen, adopt, format_cell, keep_only, look, open_cell,
+};
 use hash_guard::MAX_BODY;
-use per_base::Fault;
 use std::alloc::Global;
 use std::fmt::Write;
-use std::mem;
 
 /// A session: its disk, and a register in use there.
 #[derive(Drop)]
@@ -39,9 +40,17 @@ pub fn session(alloc: Global, words: &str) -> Result<String, CaseError> {
         disk: MemDisk::new(alloc),
         cell: None,
     };
+    let said = steps(alloc, &mut run, words);
+    drop(run);
+    said
+}
+
+fn steps(alloc: Global, run: &mut Run, words: &str) -> Result<String, CaseError>
+    requires { IsRegisterInUse run.old }
+{
     let mut said = String::new(alloc);
     for word in words.split(' ') {
-        let answer = step(alloc, &mut run, word)?;
+        let answer = step(alloc, run, word)?;
         add(&mut said, answer.as_str())?;
     }
     Ok(said)
@@ -87,12 +96,12 @@ fn put(alloc: Global, run: &mut Run, word: &str) -> Result<String, CaseError>
         return Err(CaseError::NoCase);
     };
     if body.len() > MAX_BODY || cell.generation() == u64::MAX {
+        drop(cell);
         return Err(CaseError::NoCase);
     }
     match cell.write(alloc, &mut run.disk, &body) {
         Ok(cell) => used(alloc, run, cell),
-        Err(Fault::Device) => text(alloc, "failed"),
-        Err(Fault::OutOfMemory(_)) => Err(CaseError::OutOfMemory),
+        Err(fault) => failed(alloc, fault),
     }
 }
 
@@ -120,8 +129,7 @@ fn crash(alloc: Global, run: &mut Run, word: &str) -> Result<String, CaseError>
     ensures { OnOk result (IsRegisterInUse run.new) }
 {
     drop(run.cell.take());
-    let stopped = mem::replace(&mut run.disk, MemDisk::new(alloc));
-    drop(mem::replace(&mut run.disk, restarted(stopped, word)?));
+    restart(alloc, &mut run.disk, word)?;
     text(alloc, "ok")
 }
 
@@ -283,7 +291,11 @@ fn put_file(
 // `look`: the texts that copies hold.
 fn looked(alloc: Global, disk: &mut MemDisk) -> Result<String, CaseError> {
     match look(alloc, disk, place()) {
-        Ok(looked) => seens_text(alloc, &looked.seens),
+        Ok(looked) => {
+            let said = seens_text(alloc, &looked.seens);
+            drop(looked);
+            said
+        }
         Err(error) => fault(alloc, error),
     }
 }
@@ -316,20 +328,29 @@ fn opened(alloc: Global, disk: &mut MemDisk, rest: &str) -> Result<String, CaseE
     }
     match open_cell(alloc, disk, place(), m) {
         Ok(opened) => {
-            let generation = opened.cell.generation();
-            let bytes = bytes_text(alloc, opened.text.as_slice())?;
-            let lacking = numbers_text(alloc, opened.lacking.as_slice())?;
-            Ok(format!(in alloc; "{generation}={bytes}~{lacking}")?)
+            let said = opened_text(alloc, &opened);
+            drop(opened);
+            said
         }
         Err(error) => fault(alloc, error),
     }
+}
+
+fn opened_text(alloc: Global, opened: &OpenedCell) -> Result<String, CaseError> {
+    let generation = opened.cell.generation();
+    let bytes = bytes_text(alloc, opened.text.as_slice())?;
+    let lacking = numbers_text(alloc, opened.lacking.as_slice())?;
+    Ok(format!(in alloc; "{generation}={bytes}~{lacking}")?)
 }
 
 // `adopt:GENERATION:BYTES`: brings every copy to this text.
 fn adopted(alloc: Global, disk: &mut MemDisk, rest: &str) -> Result<String, CaseError> {
     let Sealing { generation, body } = sealing_of(alloc, rest, ':')?;
     match adopt(alloc, disk, place(), generation, &body) {
-        Ok(_) => done(alloc, true),
+        Ok(cell) => {
+            drop(cell);
+            done(alloc, true)
+        }
         Err(error) => fault(alloc, error),
     }
 }

@@ -1,30 +1,37 @@
 //! Names, and the sizes of storages.
 
+use crate::elements::name_of;
 use case_words::{CaseError, bytes_of, bytes_text, cut, text};
-use per_base::{Bytes, Content, Entry, Fresh, Name, Numbers, PerError, storage_size};
+use per_base::{Bytes, Content, Entry, Fresh, Numbers, storage_size};
 use std::alloc::Global;
 use std::fmt::Write;
 
 /// `name TEXT`: the name of this text, copied.
 pub fn name(alloc: Global, words: &str) -> Result<String, CaseError> {
-    match Name::new(alloc, words) {
+    match name_of(alloc, words) {
         Ok(name) => text(alloc, name.copy()?.as_str()),
-        Err(PerError::BadName) => text(alloc, "bad"),
-        Err(_) => Err(CaseError::OutOfMemory),
+        Err(CaseError::NoCase) => text(alloc, "bad"),
+        Err(error) => Err(error),
     }
 }
 
 /// `size NAME=BYTES ..`: the elements, and the size of a storage of these.
 pub fn size(alloc: Global, words: &str) -> Result<String, CaseError> {
     let entries = entries(alloc, words)?;
+    let said = sized(alloc, &entries);
+    drop(entries);
+    said
+}
+
+fn sized(alloc: Global, entries: &[Entry]) -> Result<String, CaseError> {
     if entries.len() > 1024 {
         return Err(CaseError::NoCase);
     }
     let mut said = String::new(alloc);
-    for entry in &entries {
+    for entry in entries {
         put_entry(alloc, &mut said, entry)?;
     }
-    let total = storage_size(&entries);
+    let total = storage_size(entries);
     write!(said, "{total}")?;
     Ok(said)
 }
@@ -51,22 +58,22 @@ fn entry(alloc: Global, word: &str) -> Result<Entry, CaseError> {
         content: Content::Good(bytes),
         lacking: Numbers::new(Vec::new(alloc)),
     };
-    Ok(entry.copy()?)
+    let copy = entry.copy();
+    drop(entry);
+    Ok(copy?)
 }
 
 // An element that was copied.
 fn fresh(alloc: Global, word: &str) -> Result<Fresh, CaseError> {
     let (name, bytes) = cut(word, '=');
-    let bytes = Bytes::new(bytes_of(alloc, bytes)?);
-    let Ok(name) = Name::new(alloc, name) else {
-        return Err(CaseError::NoCase);
-    };
     let fresh = Fresh {
-        name,
+        name: name_of(alloc, name)?,
         info: None,
-        bytes,
+        bytes: Bytes::new(bytes_of(alloc, bytes)?),
     };
-    Ok(fresh.copy()?)
+    let copy = fresh.copy();
+    drop(fresh);
+    Ok(copy?)
 }
 
 // Adds an entry as a word.

@@ -1,22 +1,25 @@
 //! What an opening finds.
 
-ghost use Rattle.element_state.specs.Conditions.{IsShape};
-
 use crate::plans::Plan;
 use crate::views::{fault, store_text, view_text};
 use case_words::{CaseError, numbers_text, text};
 use disk_model::{MemDisk, Place};
-use element_store::{Shape, Store, StoreError, open_store, salvage};
+use element_store::{Store, StoreError, View, open_store, salvage};
 use guarded_cell::{CellError, Seen, look};
 use std::alloc::Global;
 use std::fmt::Write;
 
 /// The storage that opens, and the format and the copies of its index; or `corrupt`, with the salvage.
-pub fn state(alloc: Global, plan: Plan, mut disk: MemDisk) -> Result<String, CaseError> {
+pub fn state(alloc: Global, plan: Plan, disk: &mut MemDisk) -> Result<String, CaseError> {
     let shape = plan.shape(alloc)?;
-    match open_store(alloc, &mut disk, shape.copy()?) {
-        Ok(opened) => shown(alloc, &mut disk, &opened.store, shape.place),
-        Err(StoreError::Corrupt) => corrupt(alloc, &mut disk, &shape),
+    let place = shape.place;
+    match open_store(alloc, disk, shape) {
+        Ok(opened) => {
+            let said = shown(alloc, disk, &opened.store, place);
+            drop(opened);
+            said
+        }
+        Err(StoreError::Corrupt) => corrupt(alloc, plan, disk),
         Err(error) => fault(alloc, error),
     }
 }
@@ -59,15 +62,26 @@ fn put_text(alloc: Global, said: &mut String, seen: &Seen) -> Result<(), CaseErr
 }
 
 // What is left of a corrupt storage.
-fn corrupt(alloc: Global, disk: &mut MemDisk, shape: &Shape) -> Result<String, CaseError>
-    requires { IsShape shape.now }
-{
-    match salvage(alloc, disk, shape) {
-        Ok(Some(view)) => {
-            let salvage = view_text(alloc, &view)?;
-            Ok(format!(in alloc; "corrupt {salvage}")?)
-        }
-        Ok(None) => text(alloc, "corrupt"),
+fn corrupt(alloc: Global, plan: Plan, disk: &mut MemDisk) -> Result<String, CaseError> {
+    let shape = plan.shape(alloc)?;
+    let found = salvage(alloc, disk, &shape);
+    drop(shape);
+    match found {
+        Ok(found) => salvage_text(alloc, found),
         Err(error) => fault(alloc, error),
     }
+}
+
+fn salvage_text(alloc: Global, found: Option<View>) -> Result<String, CaseError> {
+    let said = match &found {
+        Some(view) => said_of(alloc, view),
+        None => text(alloc, "corrupt"),
+    };
+    drop(found);
+    said
+}
+
+fn said_of(alloc: Global, view: &View) -> Result<String, CaseError> {
+    let salvage = view_text(alloc, view)?;
+    Ok(format!(in alloc; "corrupt {salvage}")?)
 }

@@ -1,11 +1,13 @@
 //! A word that is stopped after each call of the disk.
 
+ghost use Rattle.base_tests.specs.Usage.{IsKeptStore};
+
 use crate::plans::{Plan, plan_of};
-use crate::runs::{restarted, run, step};
+use crate::restarts::restart;
+use crate::runs::{run, step};
 use crate::states::state;
-use crate::usage::{disk_of, stopped};
+use crate::usage::Kept;
 use case_words::{CaseError, cut, text};
-use disk_model::MemDisk;
 use std::alloc::Global;
 
 /// No word makes that many calls of the disk here.
@@ -67,7 +69,18 @@ fn cut_part(text: &str) -> (&str, &str) {
 
 // What an opening finds after these words.
 fn state_after(alloc: Global, plan: Plan, words: &str) -> Result<String, CaseError> {
-    state(alloc, plan, disk_of(run(alloc, plan, words)?))
+    let mut kept = Kept::new(alloc, plan);
+    let found = found_after(alloc, &mut kept, words);
+    drop(kept);
+    found
+}
+
+fn found_after(alloc: Global, kept: &mut Kept, words: &str) -> Result<String, CaseError>
+    requires { IsKeptStore kept.old }
+{
+    run(alloc, kept, words)?;
+    kept.close();
+    state(alloc, kept.plan, &mut kept.disk)
 }
 
 fn follow_all(alloc: Global, course: Course<'_>) -> Result<String, CaseError> {
@@ -114,20 +127,35 @@ fn state_at(
     passing: u64,
     way: &str,
 ) -> Result<(String, bool), CaseError> {
-    let (disk, done) = stopped_at(alloc, course, passing)?;
-    let now = state(alloc, course.plan, restarted(disk, way)?)?;
-    Ok((now, done))
+    let mut kept = Kept::new(alloc, course.plan);
+    let found = found_at(alloc, &mut kept, course, passing, way);
+    drop(kept);
+    found
 }
 
-// The disk on which the word is stopped after that many calls, and whether it succeeded.
-fn stopped_at(
+fn found_at(
     alloc: Global,
+    kept: &mut Kept,
     course: Course<'_>,
     passing: u64,
-) -> Result<(MemDisk, bool), CaseError> {
-    let kept = run(alloc, course.plan, course.earlier)?;
-    let (kept, said) = step(alloc, course.plan, stopped(kept, passing), course.word)?;
-    Ok((disk_of(kept), said.as_str() != "failed"))
+    way: &str,
+) -> Result<(String, bool), CaseError>
+    requires { IsKeptStore kept.old }
+{
+    run(alloc, kept, course.earlier)?;
+    kept.stop(passing);
+    let done = is_done(alloc, kept, course.word)?;
+    restart(alloc, &mut kept.disk, way)?;
+    Ok((state(alloc, kept.plan, &mut kept.disk)?, done))
+}
+
+// Whether the word succeeds.
+fn is_done(alloc: Global, kept: &mut Kept, word: &str) -> Result<bool, CaseError>
+    requires { IsKeptStore kept.old }
+{
+    let said = step(alloc, kept, word)?;
+    kept.close();
+    Ok(said.as_str() != "failed")
 }
 
 fn is_allowed(course: Course<'_>, is_over: bool, now: &str) -> bool {

@@ -12,9 +12,15 @@ pub fn source(alloc: Global, words: &str) -> Result<String, CaseError> {
     let (failing, words) = cut(words, ' ');
     let (bytes, rooms) = cut(words, ' ');
     let mut source = source_of(alloc, piece, failing, bytes)?;
+    let said = reads(alloc, &mut source, rooms);
+    drop(source);
+    said
+}
+
+fn reads(alloc: Global, source: &mut MemSource, rooms: &str) -> Result<String, CaseError> {
     let mut said = String::new(alloc);
     for room in numbers(alloc, rooms)? {
-        let read = read(alloc, &mut source, room)?;
+        let read = read(alloc, source, room)?;
         add(&mut said, read.as_str())?;
     }
     Ok(said)
@@ -55,11 +61,17 @@ pub fn sink(alloc: Global, words: &str) -> Result<String, CaseError> {
     let (failing, writes) = cut(words, ' ');
     let piece = number(piece)?;
     let mut sink = MemSink::new(alloc, piece, numbers(alloc, failing)?);
+    let said = written(alloc, &mut sink, writes);
+    drop(sink);
+    said
+}
+
+fn written(alloc: Global, sink: &mut MemSink, writes: &str) -> Result<String, CaseError> {
     let mut said = String::new(alloc);
     for word in writes.split(' ') {
-        put_write(alloc, &mut said, &mut sink, word)?;
+        put_write(alloc, &mut said, sink, word)?;
     }
-    put_taken(alloc, &mut said, &sink)?;
+    put_taken(alloc, &mut said, sink)?;
     Ok(said)
 }
 

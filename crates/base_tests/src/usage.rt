@@ -1,114 +1,125 @@
 //! Storages on a disk in memory, made and changed one element at a time.
 
-ghost use Rattle.std.specs.Prelude.{IfOk};
-ghost use Rattle.element_state.specs.Conditions.{IsShape, AreCommittable};
-ghost use Rattle.element_store.specs.Stores.{store_shape, view_in};
+ghost use Rattle.std.specs.Prelude.{◌≡◌, true, IfOk, IsTrue, None, OnOk};
+ghost use Rattle.disk_model.specs.Memory.{mem_medium};
+ghost use Rattle.element_state.specs.Conditions.{AreCommittable, IsShape};
+ghost use Rattle.element_store.specs.Rebuilds.{HasNext};
+ghost use Rattle.element_store.specs.Stores.{IsStore, IsUsed, store_shape, view_in};
 ghost use Rattle.index_text.specs.Contents.{AreContents};
-ghost use Rattle.base_tests.specs.Usage.{IsKeptStore, IsStoreInUse};
+ghost use Rattle.base_tests.specs.Usage.{IsKeptStore, IsPlanned};
 
-use crate::elements::{alone, element_of, takes};
+use crate::elements::{alone, element_of, fits};
 use crate::plans::Plan;
-use crate::views::fault;
+use crate::restarts::restart;
+use crate::views::{failed, fault};
 use case_words::{CaseError, text};
 use disk_model::MemDisk;
-use element_store::{OpenedStore, Shape, Store, create, open_store, rebuild, salvage};
-use per_base::{Change, Fault, Fresh};
+use element_store::{OpenedStore, Shape, Store, View, create, open_store, rebuild, salvage};
+use per_base::{Change, Fresh};
 use std::alloc::Global;
-
-/// A storage that is in use on a disk in memory.
-#[derive(Drop)]
-pub struct InUse {
-    pub disk: MemDisk,
-    pub store: Store,
-    pub shape: Shape,
-}
 
 /// A disk, and the storage that is in use there, if one is.
 #[derive(Drop)]
-pub enum Kept {
-    Closed(MemDisk),
-    Open(InUse),
+pub struct Kept {
+    pub plan: Plan,
+    pub disk: MemDisk,
+    pub store: Option<Store>,
 }
 
-/// The disk alone.
-pub fn disk_of(kept: Kept) -> MemDisk {
-    match kept {
-        Kept::Closed(disk) => disk,
-        Kept::Open(
-            InUse {
-                disk,
-                store: _,
-                shape: _,
-            },
-        ) => disk,
+impl Kept {
+    /// A disk of empty files.
+    pub fn new(alloc: Global, plan: Plan) -> Kept
+        ensures { IsKeptStore result }
+    {
+        Kept {
+            plan,
+            disk: MemDisk::new(alloc),
+            store: None,
+        }
+    }
+
+    /// From now on that many calls of the disk pass.
+    pub fn stop(&mut self, passing: u64)
+        requires { IsKeptStore self.old }
+        ensures { IsKeptStore self.new }
+    {
+        self.disk.stop_after(passing);
+    }
+
+    /// No storage is in use.
+    pub fn close(&mut self)
+        ensures { self.new.store ≡ None }
+    {
+        drop(self.store.take());
     }
 }
 
-/// From now on that many calls of the disk pass.
-pub fn stopped(kept: Kept, passing: u64) -> Kept
-    requires { IsKeptStore kept }
-    ensures { IsKeptStore result }
+/// `restart:all`, `restart:none`, `restart:PATTERN`: a power loss that keeps all writes since the last sync, none, or
+/// those of the pattern.
+pub fn restarted(alloc: Global, kept: &mut Kept, way: &str) -> Result<String, CaseError>
+    ensures { OnOk result (IsKeptStore kept.new) }
 {
-    match kept {
-        Kept::Closed(mut disk) => {
-            disk.stop_after(passing);
-            Kept::Closed(disk)
-        }
-        Kept::Open(mut kept) => {
-            kept.disk.stop_after(passing);
-            Kept::Open(kept)
-        }
-    }
+    kept.close();
+    restart(alloc, &mut kept.disk, way)?;
+    text(alloc, "ok")
 }
 
 // `NAME=BYTES`: the storage that is planned, with this element alone.
 fn planned(alloc: Global, plan: Plan, word: &str) -> Result<(Shape, Vec<Fresh>), CaseError>
-    ensures { IfOk result (λ made. IsShape made.0 × AreContents made.0.kind made.0.allowed made.1.items) }
+    ensures shape { IfOk result (λ made. IsShape made.0 × IsPlanned plan made.0) }
+    ensures contents { IfOk result (λ made. AreContents made.0.kind made.0.allowed made.1.items) }
 {
     let shape = plan.shape(alloc)?;
     let contents = alone(alloc, &shape, element_of(alloc, plan.kind, word)?)?;
     Ok((shape, contents))
 }
 
-/// `create:NAME=BYTES`: rebuilds the storage with one element.
-pub fn created(
-    alloc: Global,
-    plan: Plan,
-    mut disk: MemDisk,
-    word: &str,
-) -> Result<(Kept, String), CaseError>
-    ensures { IfOk result (λ next. IsKeptStore next.0) }
+/// `create:NAME=BYTES`: makes the storage with one element.
+pub fn created(alloc: Global, kept: &mut Kept, word: &str) -> Result<String, CaseError>
+    ensures { OnOk result (IsKeptStore kept.new) }
 {
-    let (shape, contents) = planned(alloc, plan, word)?;
-    match create(alloc, &mut disk, shape.copy()?, contents) {
-        Ok(store) => shown(alloc, InUse { disk, store, shape }),
-        Err(error) => Ok((Kept::Closed(disk), fault(alloc, error)?)),
+    kept.close();
+    let (shape, contents) = planned(alloc, kept.plan, word)?;
+    match create(alloc, &mut kept.disk, shape, contents) {
+        Ok(store) => used(alloc, kept, store),
+        Err(error) => fault(alloc, error),
     }
 }
 
 /// `open`: opens the storage.
-pub fn opened(alloc: Global, plan: Plan, mut disk: MemDisk) -> Result<(Kept, String), CaseError>
-    ensures { IfOk result (λ next. IsKeptStore next.0) }
+pub fn opened(alloc: Global, kept: &mut Kept) -> Result<String, CaseError>
+    ensures { OnOk result (IsKeptStore kept.new) }
 {
-    let shape = plan.shape(alloc)?;
-    match open_store(alloc, &mut disk, shape.copy()?) {
-        Ok(
-            OpenedStore {
-                store,
-                reports: _,
-                before: _,
-            },
-        ) => shown(alloc, InUse { disk, store, shape }),
-        Err(error) => Ok((Kept::Closed(disk), fault(alloc, error)?)),
+    kept.close();
+    let shape = kept.plan.shape(alloc)?;
+    match open_store(alloc, &mut kept.disk, shape) {
+        Ok(opened) => used(alloc, kept, store_of(opened)),
+        Err(error) => fault(alloc, error),
     }
 }
 
-// A storage in use, after a call that was done.
-fn shown(alloc: Global, kept: InUse) -> Result<(Kept, String), CaseError>
-    requires { IsStoreInUse kept }
-    ensures { IfOk result (λ next. IsKeptStore next.0) }
+// The storage alone.
+fn store_of(opened: OpenedStore) -> Store
+    ensures { result ≡ opened.store }
 {
-    Ok((Kept::Open(kept), text(alloc, "ok")?))
+    let OpenedStore {
+        store,
+        reports,
+        before,
+    } = opened;
+    drop(reports);
+    drop(before);
+    store
+}
+
+// From now on this storage is in use.
+fn used(alloc: Global, kept: &mut Kept, store: Store) -> Result<String, CaseError>
+    requires used { IsUsed true (mem_medium kept.old.disk).image store }
+    requires planned { IsPlanned kept.old.plan (store_shape store) }
+    ensures { OnOk result (IsKeptStore kept.new) }
+{
+    drop(kept.store.replace(store));
+    text(alloc, "ok")
 }
 
 /// `rebuild:NAME=BYTES`: rebuilds the storage with one element, beside what the place holds.
@@ -119,88 +130,91 @@ pub fn rebuilt(
     word: &str,
 ) -> Result<String, CaseError> {
     let (shape, contents) = planned(alloc, plan, word)?;
-    match salvage(alloc, disk, &shape) {
-        Err(error) => return fault(alloc, error),
-        Ok(Some(view)) if view.generation == u64::MAX => return Err(CaseError::NoCase),
-        Ok(_) => {}
+    let done = rebuilt_as(alloc, disk, &shape, contents);
+    drop(shape);
+    done
+}
+
+fn rebuilt_as(
+    alloc: Global,
+    disk: &mut MemDisk,
+    shape: &Shape,
+    contents: Vec<Fresh>,
+) -> Result<String, CaseError>
+    requires shape { IsShape shape.now }
+    requires contents { AreContents shape.now.kind shape.now.allowed contents.items }
+{
+    match salvage(alloc, disk, shape) {
+        Ok(found) => {
+            if !has_next(found) {
+                drop(contents);
+                return Err(CaseError::NoCase);
+            }
+        }
+        Err(error) => {
+            drop(contents);
+            return fault(alloc, error);
+        }
     }
-    match rebuild(alloc, disk, &shape, contents) {
+    match rebuild(alloc, disk, shape, contents) {
         Ok(()) => text(alloc, "ok"),
         Err(error) => fault(alloc, error),
     }
 }
 
-impl InUse {
-    // The change alone, where the storage can take it.
-    fn single(&self, alloc: Global, change: Change) -> Result<Vec<Change>, CaseError>
-        requires { IsStoreInUse self.now }
-        ensures { IfOk result (λ changes. AreCommittable (store_shape self.now.store)
-            (view_in self.now.store) changes.items) }
-    {
-        if self.store.generation() == u64::MAX || self.store.entries().len() >= 1024 {
-            return Err(CaseError::NoCase);
-        }
-        if !takes(&self.shape, self.store.size(), &change) {
-            return Err(CaseError::NoCase);
-        }
-        Ok(vec![in alloc; change]?)
-    }
+// Whether what is left has not the greatest generation.
+fn has_next(found: Option<View>) -> bool
+    ensures { IsTrue result → HasNext found }
+{
+    let has_next = match &found {
+        Some(view) => view.generation < u64::MAX,
+        None => true,
+    };
+    drop(found);
+    has_next
+}
 
-    // Commits one change; where the disk fails, the storage is closed.
-    fn commit(self, alloc: Global, change: Change) -> Result<Kept, CaseError>
-        requires { IsStoreInUse self }
-        ensures { IfOk result IsKeptStore }
-    {
-        let changes = self.single(alloc, change)?;
-        let InUse {
-            mut disk,
-            store,
-            shape,
-        } = self;
-        match store.commit(&mut disk, changes, ()) {
-            Ok(store) => Ok(Kept::Open(InUse { disk, store, shape })),
-            Err(Fault::Device) => Ok(Kept::Closed(disk)),
-            Err(Fault::OutOfMemory(_)) => Err(CaseError::OutOfMemory),
+/// `put:NAME=BYTES`: commits another content of an element of the storage in use. Where the disk fails, none is in use.
+pub fn put(alloc: Global, kept: &mut Kept, word: &str) -> Result<String, CaseError>
+    requires { IsKeptStore kept.old }
+    ensures { OnOk result (IsKeptStore kept.new) }
+{
+    let Some(store) = kept.store.take() else {
+        return Err(CaseError::NoCase);
+    };
+    match change_of(alloc, kept.plan, &store, word) {
+        Ok(changes) => match store.commit(&mut kept.disk, changes, ()) {
+            Ok(store) => used(alloc, kept, store),
+            Err(fault) => failed(alloc, fault),
+        },
+        Err(error) => {
+            drop(store);
+            Err(error)
         }
-    }
-
-    // Commits another content of an element.
-    fn changed(self, alloc: Global, word: &str) -> Result<Kept, CaseError>
-        requires { IsStoreInUse self }
-        ensures { IfOk result IsKeptStore }
-    {
-        let fresh = element_of(alloc, self.shape.kind, word)?;
-        self.commit(alloc, Change::Put(fresh))
     }
 }
 
-// The storage that is still in use.
-fn in_use(kept: Kept) -> Result<InUse, CaseError>
-    requires { IsKeptStore kept }
-    ensures { IfOk result IsStoreInUse }
+// The change of one element, where the storage can take it.
+fn change_of(alloc: Global, plan: Plan, store: &Store, word: &str) -> Result<Vec<Change>, CaseError>
+    requires store { IsStore store.now }
+    requires planned { IsPlanned plan (store_shape store.now) }
+    ensures { IfOk result (λ changes. AreCommittable (store_shape store.now) (view_in store.now) changes.items) }
 {
-    match kept {
-        Kept::Open(kept) => Ok(kept),
-        Kept::Closed(_) => Err(CaseError::NoCase),
-    }
+    single(alloc, plan, store, element_of(alloc, plan.kind, word)?)
 }
 
-/// `put:NAME=BYTES`: commits another content of an element of a storage in use.
-pub fn used(alloc: Global, kept: Kept, word: &str) -> Result<(Kept, String), CaseError>
-    requires { IsKeptStore kept }
-    ensures { IfOk result (λ next. IsKeptStore next.0) }
+fn single(alloc: Global, plan: Plan, store: &Store, fresh: Fresh) -> Result<Vec<Change>, CaseError>
+    requires store { IsStore store.now }
+    requires planned { IsPlanned plan (store_shape store.now) }
+    ensures { IfOk result (λ changes. AreCommittable (store_shape store.now) (view_in store.now) changes.items) }
 {
-    let kept = in_use(kept)?;
-    told(alloc, kept.changed(alloc, word)?)
-}
-
-// Whether it is still in use; where it is closed, its disk failed.
-fn told(alloc: Global, kept: Kept) -> Result<(Kept, String), CaseError>
-    requires { IsKeptStore kept }
-    ensures { IfOk result (λ next. IsKeptStore next.0) }
-{
-    match kept {
-        Kept::Open(kept) => shown(alloc, kept),
-        Kept::Closed(disk) => Ok((Kept::Closed(disk), text(alloc, "failed")?)),
+    if store.generation() == u64::MAX || store.entries().len() >= 1024 {
+        drop(fresh);
+        return Err(CaseError::NoCase);
     }
+    if !fits(plan.kind, plan.allowed, store.size(), &fresh) {
+        drop(fresh);
+        return Err(CaseError::NoCase);
+    }
+    Ok(vec![in alloc; Change::Put(fresh)]?)
 }

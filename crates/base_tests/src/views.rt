@@ -2,7 +2,7 @@
 
 use case_words::{CaseError, bytes_text, numbers_text};
 use element_store::{Store, StoreError, View};
-use per_base::{Content, Entry, Numbers};
+use per_base::{Content, Entry, Fault, Numbers};
 use std::alloc::Global;
 use std::fmt::Write;
 
@@ -58,6 +58,14 @@ fn content_text(alloc: Global, content: &Content) -> Result<String, CaseError> {
     };
     let bytes = bytes_text(alloc, bytes.as_slice())?;
     Ok(format!(in alloc; "{sign}{bytes}")?)
+}
+
+/// Why a call did not end well that hands back what it was given.
+pub fn failed<T: Drop>(alloc: Global, fault: Fault<T>) -> Result<String, CaseError> {
+    match fault {
+        Fault::Device => Ok(String::from_str(alloc, "failed")?),
+        Fault::OutOfMemory(_) => Err(CaseError::OutOfMemory),
+    }
 }
 
 /// Why a call on a storage did not end well.

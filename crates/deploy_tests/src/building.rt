@@ -5,11 +5,10 @@ ghost use Rattle.disk_model.specs.Memory.{mem_medium};
 ghost use Rattle.deploy.specs.Building.{StagedAt};
 ghost use Rattle.deploy.specs.Roots.{RootAt};
 
-use crate::calls::UPDATED;
-use crate::courses::add;
+use crate::calls::{UPDATED, put_outcome};
+use crate::courses::{add, beside, handed_on};
 use crate::faults::Fault;
 use crate::manifests::manifest;
-use crate::refusals::refusal_text;
 use case_words::{cut, small};
 use deploy::{Begin, Root, Staged, begin_update, open_root};
 use disk_model::MemDisk;
@@ -32,13 +31,12 @@ pub fn built(
 {
     let (name, rest) = cut(rest, '/');
     let (steps, end) = cut(rest, '/');
-    let steps = small(steps)?;
+    let (root, steps) = beside(root, small(steps))?;
     let text = manifest(name).as_bytes();
     match begin_update(alloc, disk, app, root, None, text, migrations, UPDATED)? {
         Begin::Refused(root, refused) => {
-            let answer = refusal_text(alloc, &refused)?;
-            add(said, answer.as_str())?;
-            Ok(root)
+            let told = put_outcome(alloc, Some(refused), said);
+            Ok(handed_on(root, told)?)
         }
         Begin::Ready(staged) => {
             let staged = stepped(alloc, disk, app, staged, steps, said)?;
@@ -59,18 +57,27 @@ fn stepped(
     requires { StagedAt true (mem_medium disk.old).image app staged }
     ensures { IfOk result (StagedAt true (mem_medium disk.new).image app) }
 {
-    let mut staged = staged;
+    let told = put_offer(alloc, &staged, said);
+    let mut staged = handed_on(staged, told)?;
+    for _ in 0..steps {
+        staged = staged.next_storage(disk)?;
+        let told = put_remaining(alloc, &staged, said);
+        staged = handed_on(staged, told)?;
+    }
+    Ok(staged)
+}
+
+fn put_offer(alloc: Global, staged: &Staged, said: &mut String) -> Result<(), Fault> {
     let offered = staged.offered();
     let remaining = staged.remaining();
     let answer = format!(in alloc; "offers {offered}, {remaining} remain")?;
-    add(said, answer.as_str())?;
-    for _ in 0..steps {
-        staged = staged.next_storage(disk)?;
-        let remaining = staged.remaining();
-        let answer = format!(in alloc; "{remaining} remain")?;
-        add(said, answer.as_str())?;
-    }
-    Ok(staged)
+    Ok(add(said, answer.as_str())?)
+}
+
+fn put_remaining(alloc: Global, staged: &Staged, said: &mut String) -> Result<(), Fault> {
+    let remaining = staged.remaining();
+    let answer = format!(in alloc; "{remaining} remain")?;
+    Ok(add(said, answer.as_str())?)
 }
 
 // The root at the end of an update.
@@ -85,12 +92,32 @@ fn ended(
     requires { StagedAt true (mem_medium disk.old).image app staged }
     ensures { IfOk result (λ root. RootAt true (mem_medium disk.new).image app root) }
 {
-    let root = match end {
-        "commit" => staged.commit_update(disk)?,
-        "abort" => staged.abort(),
-        "forget" => open_root(alloc, disk, app)?,
-        _ => return Err(Fault::CaseError),
-    };
-    add(said, "ok")?;
+    let root = root_after(alloc, disk, app, staged, end)?;
+    let told = add(said, "ok");
+    let (root, ()) = beside(root, told)?;
     Ok(root)
+}
+
+fn root_after(
+    alloc: Global,
+    disk: &mut MemDisk,
+    app: u32,
+    staged: Staged,
+    end: &str,
+) -> Result<Root, Fault>
+    requires { StagedAt true (mem_medium disk.old).image app staged }
+    ensures { IfOk result (λ root. RootAt true (mem_medium disk.new).image app root) }
+{
+    match end {
+        "commit" => Ok(staged.commit_update(disk)?),
+        "abort" => Ok(staged.abort()),
+        "forget" => {
+            drop(staged);
+            Ok(open_root(alloc, disk, app)?)
+        }
+        _ => {
+            drop(staged);
+            Err(Fault::CaseError)
+        }
+    }
 }

@@ -1,11 +1,11 @@
 //! Calls on a root.
 
-ghost use Rattle.std.specs.Prelude.{◌<◌, IfOk, true};
+ghost use Rattle.std.specs.Prelude.{◌≡◌, ◌<◌, IfOk, true};
 ghost use Rattle.disk_model.specs.Memory.{mem_medium};
-ghost use Rattle.deploy.specs.Roots.{RootAt};
+ghost use Rattle.deploy.specs.Roots.{IsRootOf, RootAt};
 
 use crate::building::built;
-use crate::courses::add;
+use crate::courses::{add, beside, handed_on};
 use crate::faults::Fault;
 use crate::manifests::manifest;
 use crate::refusals::outcome_text;
@@ -38,6 +38,7 @@ pub fn calls(
     for call in calls.split('+') {
         root = called(alloc, disk, app, root, migrations, call, said)?;
     }
+    drop(root);
     Ok(())
 }
 
@@ -58,18 +59,43 @@ fn called(
     let (verb, rest) = cut(call, '=');
     match verb {
         "look" => {
-            let answer = looked(alloc, disk, app, &root)?;
-            add(said, answer.as_str())?;
-            Ok(root)
+            let told = look(alloc, disk, app, &root, said);
+            Ok(handed_on(root, told)?)
         }
         "build" => built(alloc, disk, app, root, migrations, rest, said),
         _ => {
             let outcome = made(alloc, disk, app, root, migrations, verb, rest)?;
-            let answer = outcome_text(alloc, outcome.refused.as_ref())?;
-            add(said, answer.as_str())?;
-            Ok(outcome.root)
+            let Outcome { root, refused } = outcome;
+            let told = put_outcome(alloc, refused, said);
+            Ok(handed_on(root, told)?)
         }
     }
+}
+
+// `look`: adds what is installed.
+fn look(
+    alloc: Global,
+    disk: &mut MemDisk,
+    app: u32,
+    root: &Root,
+    said: &mut String,
+) -> Result<(), Fault>
+    requires app { app < 8 }
+    requires root { IsRootOf app root.now }
+    ensures { (mem_medium disk.new).image ≡ (mem_medium disk.old).image }
+{
+    let answer = looked(alloc, disk, app, root)?;
+    Ok(add(said, answer.as_str())?)
+}
+
+/// Adds how a call ended.
+pub fn put_outcome(
+    alloc: Global,
+    refused: Option<PerError>,
+    said: &mut String,
+) -> Result<(), Fault> {
+    let answer = outcome_text(alloc, refused)?;
+    Ok(add(said, answer.as_str())?)
 }
 
 // A call with an outcome.
@@ -92,7 +118,10 @@ fn made(
         "finish" => finished(alloc, disk, app, root),
         "rollback" => rolled_back(alloc, disk, app, root, rest),
         "wipe" => wiped(alloc, disk, app, root, rest),
-        _ => Err(Fault::CaseError),
+        _ => {
+            drop(root);
+            Err(Fault::CaseError)
+        }
     }
 }
 
@@ -132,7 +161,7 @@ fn rolled_back(
     requires root { RootAt true (mem_medium disk.old).image app root }
     ensures root { IfOk result (λ o. RootAt true (mem_medium disk.new).image app o.root) }
 {
-    let busy = busy_of(alloc, rest)?;
+    let (root, busy) = beside(root, busy_of(alloc, rest))?;
     Ok(rollback(alloc, disk, root, busy.as_ref())?)
 }
 
@@ -148,7 +177,7 @@ fn wiped(
     requires root { RootAt true (mem_medium disk.old).image app root }
     ensures root { IfOk result (λ o. RootAt true (mem_medium disk.new).image app o.root) }
 {
-    let busy = busy_of(alloc, rest)?;
+    let (root, busy) = beside(root, busy_of(alloc, rest))?;
     Ok(wipe(alloc, disk, app, root, busy.as_ref())?)
 }
 
@@ -166,7 +195,7 @@ fn updated(
     ensures root { IfOk result (λ o. RootAt true (mem_medium disk.new).image app o.root) }
 {
     let (name, busy) = cut(rest, '/');
-    let busy = busy_of(alloc, busy)?;
+    let (root, busy) = beside(root, busy_of(alloc, busy))?;
     let text = manifest(name).as_bytes();
     Ok(update(
         alloc,
@@ -192,7 +221,16 @@ fn busy_of(alloc: Global, word: &str) -> Result<Option<Name>, CaseError> {
 pub fn name_of(alloc: Global, word: &str) -> Result<Name, CaseError> {
     match Name::new(alloc, word) {
         Ok(name) => Ok(name),
-        Err(PerError::BadName) => Err(CaseError::NoCase),
-        Err(_) => Err(CaseError::OutOfMemory),
+        Err(error) => Err(case_error(error)),
+    }
+}
+
+fn case_error(error: PerError) -> CaseError {
+    let is_bad = matches!(&error, PerError::BadName);
+    drop(error);
+    if is_bad {
+        CaseError::NoCase
+    } else {
+        CaseError::OutOfMemory
     }
 }

@@ -3,14 +3,19 @@
 use crate::courses::course;
 use crate::stops::{damaged, stops};
 use case_words::{CaseError, cut};
+use migrate_fns::Migrations;
 use std::alloc::{AllocError, Global};
 
 /// What came of a line.
-pub fn answer(alloc: Global, line: &str) -> Result<String, AllocError> {
+pub fn answer(
+    alloc: Global,
+    migrations: &Migrations,
+    line: &str,
+) -> Result<String, AllocError> {
     if line.is_empty() || line.starts_with('#') {
         return String::from_str(alloc, line);
     }
-    match case(alloc, line) {
+    match case(alloc, migrations, line) {
         Ok(said) => Ok(said),
         Err(CaseError::NoCase) => String::from_str(alloc, "no case"),
         Err(CaseError::OutOfMemory) => Err(AllocError),
@@ -18,12 +23,12 @@ pub fn answer(alloc: Global, line: &str) -> Result<String, AllocError> {
 }
 
 // What came of a case.
-fn case(alloc: Global, line: &str) -> Result<String, CaseError> {
+fn case(alloc: Global, migrations: &Migrations, line: &str) -> Result<String, CaseError> {
     let (kind, rest) = cut(line, ' ');
     match kind {
-        "course" => course(alloc, rest),
-        "stops" => stops(alloc, rest),
-        "damaged" => damaged(alloc, rest),
+        "course" => course(alloc, migrations, rest),
+        "stops" => stops(alloc, migrations, rest),
+        "damaged" => damaged(alloc, migrations, rest),
         _ => Err(CaseError::NoCase),
     }
 }

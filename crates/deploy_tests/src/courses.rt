@@ -1,8 +1,8 @@
 //! Courses, one word after the other.
 
-ghost use Rattle.std.specs.Prelude.{◌<◌, IfOk};
+ghost use Rattle.std.specs.Prelude.{◌≡◌, ◌<◌, IfOk};
 
-use crate::converters::with_converters;
+use crate::calls::calls;
 use crate::faults::Fault;
 use crate::images::{flip, hold, spoil, wear};
 use crate::roots::viewed;
@@ -10,44 +10,51 @@ use crate::storages::stored;
 use case_words::{CaseError, cut, number, numbers, small};
 use deploy::format_all;
 use disk_model::MemDisk;
+use migrate_fns::Migrations;
 use std::alloc::Global;
+use std::mem;
 
 /// `course WORD ..`: what each word answers, from a disk of empty files on.
-pub fn course(alloc: Global, words: &str) -> Result<String, CaseError> {
-    let (_disk, said) = run(alloc, MemDisk::new(alloc), words)?;
+pub fn course(alloc: Global, migrations: &Migrations, words: &str) -> Result<String, CaseError> {
+    let mut disk = MemDisk::new(alloc);
+    let said = run(alloc, &mut disk, migrations, words);
+    drop(disk);
+    said
+}
+
+/// What each word answers.
+pub fn run(
+    alloc: Global,
+    disk: &mut MemDisk,
+    migrations: &Migrations,
+    words: &str,
+) -> Result<String, CaseError> {
+    let mut said = String::new(alloc);
+    for word in words.split_whitespace() {
+        step(alloc, disk, migrations, word, &mut said)?;
+    }
     Ok(said)
 }
 
-/// What the words leave of a disk, and what each answers.
-pub fn run(alloc: Global, disk: MemDisk, words: &str) -> Result<(MemDisk, String), CaseError> {
-    let mut disk = disk;
-    let mut said = String::new(alloc);
-    for word in words.split_whitespace() {
-        disk = step(alloc, disk, word, &mut said)?;
-    }
-    Ok((disk, said))
-}
-
-/// What one word leaves of a disk; its answers are added. Where the disk fails, the last is `failed`.
+/// Adds the answers of one word. Where the disk fails, the last is `failed`.
 pub fn step(
     alloc: Global,
-    disk: MemDisk,
+    disk: &mut MemDisk,
+    migrations: &Migrations,
     word: &str,
     said: &mut String,
-) -> Result<MemDisk, CaseError> {
+) -> Result<(), CaseError> {
     let (verb, rest) = cut(word, ':');
     if verb == "restart" {
-        add(said, "ok")?;
-        return restarted(disk, rest);
+        restart(alloc, disk, rest)?;
+        return add(said, "ok");
     }
-    let mut disk = disk;
-    match told(alloc, &mut disk, verb, rest, said) {
-        Ok(()) => {}
-        Err(Fault::Device) => add(said, "failed")?,
-        Err(Fault::CaseError) => return Err(CaseError::NoCase),
-        Err(Fault::OutOfMemory) => return Err(CaseError::OutOfMemory),
+    match told(alloc, disk, migrations, verb, rest, said) {
+        Ok(()) => Ok(()),
+        Err(Fault::Device) => add(said, "failed"),
+        Err(Fault::CaseError) => Err(CaseError::NoCase),
+        Err(Fault::OutOfMemory) => Err(CaseError::OutOfMemory),
     }
-    Ok(disk)
 }
 
 /// Adds an answer after others.
@@ -59,20 +66,54 @@ pub fn add(said: &mut String, answer: &str) -> Result<(), CaseError> {
     Ok(())
 }
 
-/// After a power loss that keeps all writes since the last sync, none, or those of the pattern.
-pub fn restarted(disk: MemDisk, way: &str) -> Result<MemDisk, CaseError> {
-    let disk = match way {
-        "all" => disk.crash(true)?,
-        "none" => disk.crash(false)?,
-        _ => disk.crash_torn(number(way)?)?,
-    };
-    Ok(disk)
+/// The value, unless what came beside it is a fault. A function that owns a root or an update in progress passes it
+/// through here where others would write `?`: there, as at each end of a function, what the function owns is let go
+/// part by part, and every part is proved. For the same reason what has many parts goes by `drop`.
+pub fn handed_on<T: Drop>(value: T, told: Result<(), Fault>) -> Result<T, Fault>
+    ensures { IfOk result (λ kept. kept ≡ value) }
+{
+    told?;
+    Ok(value)
+}
+
+/// The same, with what came beside it.
+pub fn beside<T: Drop, U: Drop>(value: T, told: Result<U, CaseError>) -> Result<(T, U), Fault>
+    ensures { IfOk result (λ both. both.0 ≡ value) }
+{
+    let told = told?;
+    Ok((value, told))
+}
+
+/// A power loss that keeps all writes since the last sync, none, or those of the pattern.
+pub fn restart(alloc: Global, disk: &mut MemDisk, way: &str) -> Result<(), CaseError> {
+    let stopped = mem::replace(disk, MemDisk::new(alloc));
+    drop(mem::replace(disk, restarted(stopped, way)?));
+    Ok(())
+}
+
+fn restarted(disk: MemDisk, way: &str) -> Result<MemDisk, CaseError> {
+    match way {
+        "all" => Ok(disk.crash(true)?),
+        "none" => Ok(disk.crash(false)?),
+        _ => torn(disk, number(way)),
+    }
+}
+
+fn torn(disk: MemDisk, pattern: Result<u64, CaseError>) -> Result<MemDisk, CaseError> {
+    match pattern {
+        Ok(pattern) => Ok(disk.crash_torn(pattern)?),
+        Err(error) => {
+            drop(disk);
+            Err(error)
+        }
+    }
 }
 
 // A word that works on the disk.
 fn told(
     alloc: Global,
     disk: &mut MemDisk,
+    migrations: &Migrations,
     verb: &str,
     rest: &str,
     said: &mut String,
@@ -90,7 +131,7 @@ fn told(
             let (app, rest) = cut(rest, ':');
             return stored(alloc, disk, app_of(app)?, verb, rest, said);
         }
-        _ => return with_converters(alloc, disk, app_of(verb)?, rest, said),
+        _ => return calls(alloc, disk, app_of(verb)?, migrations, rest, said),
     }
     add(said, "ok")?;
     Ok(())

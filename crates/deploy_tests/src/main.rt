@@ -21,7 +21,6 @@
 mod building;
 mod calls;
 mod cases;
-mod converters;
 mod courses;
 mod faults;
 mod images;
@@ -34,13 +33,33 @@ mod storages;
 mod things;
 mod versions;
 
+use migrate_fns::Migrations;
+use number_converters::{WithConverters, with_converters};
+use std::alloc::Global;
 use std::io::{self, BufRead, BufReader};
+
+/// The lines of standard input.
+#[derive(Drop)]
+struct Printing<'a, R: Input + Print> {
+    rt: &'a R,
+    alloc: Global,
+}
+
+impl<'a, R: Input + Print> WithConverters for Printing<'a, R> {
+    type Answer = io::Result<()>;
+
+    /// Prints what comes of each line.
+    fn with_converters(self, migrations: &Migrations) -> io::Result<()> {
+        let Printing { rt, alloc } = self;
+        for line in BufReader::new(alloc, rt.reader())?.lines(alloc) {
+            let said = cases::answer(alloc, migrations, line?.as_str())?;
+            rt.println(said)?;
+        }
+        Ok(())
+    }
+}
 
 fn main(rt: HostRuntime) -> io::Result<()> {
     let alloc = rt.alloc();
-    for line in BufReader::new(alloc, rt.reader())?.lines(alloc) {
-        let said = cases::answer(alloc, line?.as_str())?;
-        rt.println(said)?;
-    }
-    Ok(())
+    with_converters(alloc, Printing { rt: &rt, alloc })?
 }

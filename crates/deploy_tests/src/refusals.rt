@@ -3,16 +3,18 @@
 use per_base::{Holder, PerError, Unit};
 use std::alloc::{AllocError, Global};
 
-/// `ok`, or the refusal.
-pub fn outcome_text(alloc: Global, refused: Option<&PerError>) -> Result<String, AllocError> {
-    match refused {
+/// `ok`, or the refusal of a call, which is let go here alone.
+pub fn outcome_text(alloc: Global, refused: Option<PerError>) -> Result<String, AllocError> {
+    let said = match &refused {
         None => String::from_str(alloc, "ok"),
         Some(error) => refusal_text(alloc, error),
-    }
+    };
+    drop(refused);
+    said
 }
 
-/// A refusal, with what it carries.
-pub fn refusal_text(alloc: Global, error: &PerError) -> Result<String, AllocError> {
+// A refusal, with what it carries.
+fn refusal_text(alloc: Global, error: &PerError) -> Result<String, AllocError> {
     match error {
         PerError::IntegrityCorrupted { unit } => corrupted_text(alloc, unit),
         PerError::ResourceBusy {

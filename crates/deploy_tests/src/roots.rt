@@ -64,9 +64,14 @@ pub fn viewed(alloc: Global, disk: &mut MemDisk, app: u32, said: &mut String) ->
     requires { app < 8 }
 {
     let view = view_root(alloc, disk, app)?;
-    let answer = view_text(alloc, &view)?;
-    add(said, answer.as_str())?;
-    Ok(())
+    let told = put_view(alloc, &view, said);
+    drop(view);
+    told
+}
+
+fn put_view(alloc: Global, view: &RootView, said: &mut String) -> Result<(), Fault> {
+    let answer = view_text(alloc, view)?;
+    Ok(add(said, answer.as_str())?)
 }
 
 fn view_text(alloc: Global, view: &RootView) -> Result<String, Fault> {

@@ -33,10 +33,20 @@ impl Snapshot {
     /// A quiet disk with these files.
     pub fn disk(&self, alloc: Global) -> Result<MemDisk, CaseError> {
         let mut disk = MemDisk::new(alloc);
+        match self.put(&mut disk) {
+            Ok(()) => Ok(disk.crash(true)?),
+            Err(error) => {
+                drop(disk);
+                Err(error)
+            }
+        }
+    }
+
+    // Puts these files onto a disk.
+    fn put(&self, disk: &mut MemDisk) -> Result<(), CaseError> {
         for (file, bytes) in &self.files {
             disk.write_at(*file, 0, bytes)?;
         }
-        disk.sync()?;
-        Ok(disk.crash(true)?)
+        Ok(disk.sync()?)
     }
 }

@@ -1,9 +1,10 @@
 //! A word that is stopped after each write to the disk.
 
-use crate::courses::{restarted, run, step};
+use crate::courses::{restart, run, step};
 use crate::snapshots::Snapshot;
 use case_words::{CaseError, text};
 use disk_model::MemDisk;
+use migrate_fns::Migrations;
 use std::alloc::Global;
 
 /// No word makes that many calls of the disk here.
@@ -25,6 +26,7 @@ const DAMAGES: [&str; 3] = ["flip:0,1", "flip:4,5", "flip:8,9"];
 /// The word that is stopped, the words that look at what is left, and what they may answer.
 #[derive(Clone, Copy)]
 struct Course<'a> {
+    migrations: &'a Migrations,
     word: &'a str,
     look: &'a str,
     before: &'a str,
@@ -34,21 +36,25 @@ struct Course<'a> {
 }
 
 /// `stops WORD .. / WORD / LOOK .. / BEFORE / AFTER`, and ` / BETWEEN`: `kept`, or where another answer came.
-pub fn stops(alloc: Global, rest: &str) -> Result<String, CaseError> {
-    follow_all(alloc, rest, &[])
+pub fn stops(alloc: Global, migrations: &Migrations, rest: &str) -> Result<String, CaseError> {
+    follow_all(alloc, migrations, rest, &[])
 }
 
 /// `damaged` and the same: besides, where a copy of the root of application 0 is damaged after each restart.
-pub fn damaged(alloc: Global, rest: &str) -> Result<String, CaseError> {
-    follow_all(alloc, rest, &DAMAGES)
+pub fn damaged(alloc: Global, migrations: &Migrations, rest: &str) -> Result<String, CaseError> {
+    follow_all(alloc, migrations, rest, &DAMAGES)
 }
 
-fn follow_all(alloc: Global, rest: &str, damages: &[&str]) -> Result<String, CaseError> {
+fn follow_all(
+    alloc: Global,
+    migrations: &Migrations,
+    rest: &str,
+    damages: &[&str],
+) -> Result<String, CaseError> {
     let (earlier, rest) = cut_part(rest);
-    let course = course_of(rest);
-    let (mut disk, _said) = run(alloc, MemDisk::new(alloc), earlier)?;
-    let start = Snapshot::taken(alloc, &mut disk)?;
-    let moments = moments(alloc, &start, course.word)?;
+    let course = course_of(migrations, rest);
+    let start = start_after(alloc, migrations, earlier)?;
+    let moments = moments(alloc, &start, course)?;
     for way in RESTARTS {
         if let Some(fault) = follow(alloc, &start, course, &moments, "", way)? {
             return Ok(fault);
@@ -64,12 +70,31 @@ fn follow_all(alloc: Global, rest: &str, damages: &[&str]) -> Result<String, Cas
     text(alloc, "kept")
 }
 
-fn course_of(rest: &str) -> Course<'_> {
+// What a disk holds after these words.
+fn start_after(alloc: Global, migrations: &Migrations, words: &str) -> Result<Snapshot, CaseError> {
+    let mut disk = MemDisk::new(alloc);
+    let start = taken_after(alloc, &mut disk, migrations, words);
+    drop(disk);
+    start
+}
+
+fn taken_after(
+    alloc: Global,
+    disk: &mut MemDisk,
+    migrations: &Migrations,
+    words: &str,
+) -> Result<Snapshot, CaseError> {
+    run(alloc, disk, migrations, words)?;
+    Snapshot::taken(alloc, disk)
+}
+
+fn course_of<'a>(migrations: &'a Migrations, rest: &'a str) -> Course<'a> {
     let (word, rest) = cut_part(rest);
     let (look, rest) = cut_part(rest);
     let (before, rest) = cut_part(rest);
     let (after, between) = cut_part(rest);
     Course {
+        migrations,
         word,
         look,
         before,
@@ -87,20 +112,38 @@ fn cut_part(text: &str) -> (&str, &str) {
 
 // After how many calls the word is stopped: those at which it has written more than before, and all of its calls, as
 // the last. What a stop at another call may leave is among what these leave.
-fn moments(alloc: Global, start: &Snapshot, word: &str) -> Result<Vec<u64>, CaseError> {
+fn moments(
+    alloc: Global,
+    start: &Snapshot,
+    course: Course<'_>,
+) -> Result<Vec<u64>, CaseError> {
     let mut moments = Vec::new(alloc);
     let mut written = 0;
     for passing in 0..ENOUGH {
-        let (disk, done) = stopped_at(alloc, start, word, passing)?;
-        if done || passing == 0 || disk.written() > written {
+        let (now_written, done) = written_at(alloc, start, course, passing)?;
+        if done || passing == 0 || now_written > written {
             moments.push(passing)?;
         }
         if done {
             return Ok(moments);
         }
-        written = disk.written();
+        written = now_written;
     }
     Err(CaseError::NoCase)
+}
+
+// How many bytes the word has written where it is stopped after that many calls, and whether it succeeded.
+fn written_at(
+    alloc: Global,
+    start: &Snapshot,
+    course: Course<'_>,
+    passing: u64,
+) -> Result<(u64, bool), CaseError> {
+    let mut disk = start.disk(alloc)?;
+    let done = is_done(alloc, &mut disk, course, passing);
+    let written = disk.written();
+    drop(disk);
+    Ok((written, done?))
 }
 
 // Stops the word at each of these moments. Where a restart keeps all writes or none, the answer is that of after from
@@ -116,9 +159,7 @@ fn follow(
     let is_whole = way == "all" || way == "none";
     let mut is_over = false;
     for passing in moments {
-        let (disk, done) = stopped_at(alloc, start, course.word, *passing)?;
-        let (disk, _said) = run(alloc, restarted(disk, way)?, damage)?;
-        let (_disk, now) = run(alloc, disk, course.look)?;
+        let (now, done) = answer_at(alloc, start, course, *passing, damage, way)?;
         if !is_allowed(course, done || is_over, now.as_str()) {
             let fault = format!(in alloc; "{damage} restart {way} after {passing} calls: {now}")?;
             return Ok(Some(fault));
@@ -128,18 +169,46 @@ fn follow(
     Ok(None)
 }
 
-// The disk on which the word is stopped after that many calls, and whether it succeeded.
-fn stopped_at(
+// What the look answers where the word is stopped after that many calls, and whether the word succeeded.
+fn answer_at(
     alloc: Global,
     start: &Snapshot,
-    word: &str,
+    course: Course<'_>,
     passing: u64,
-) -> Result<(MemDisk, bool), CaseError> {
+    damage: &str,
+    way: &str,
+) -> Result<(String, bool), CaseError> {
     let mut disk = start.disk(alloc)?;
+    let answer = look_after(alloc, &mut disk, course, passing, damage, way);
+    drop(disk);
+    answer
+}
+
+fn look_after(
+    alloc: Global,
+    disk: &mut MemDisk,
+    course: Course<'_>,
+    passing: u64,
+    damage: &str,
+    way: &str,
+) -> Result<(String, bool), CaseError> {
+    let done = is_done(alloc, disk, course, passing)?;
+    restart(alloc, disk, way)?;
+    run(alloc, disk, course.migrations, damage)?;
+    Ok((run(alloc, disk, course.migrations, course.look)?, done))
+}
+
+// Whether the word succeeds where it is stopped after that many calls.
+fn is_done(
+    alloc: Global,
+    disk: &mut MemDisk,
+    course: Course<'_>,
+    passing: u64,
+) -> Result<bool, CaseError> {
     disk.stop_after(passing);
     let mut said = String::new(alloc);
-    let disk = step(alloc, disk, word, &mut said)?;
-    Ok((disk, !said.as_str().ends_with("failed")))
+    step(alloc, disk, course.migrations, course.word, &mut said)?;
+    Ok(!said.as_str().ends_with("failed"))
 }
 
 fn is_allowed(course: Course<'_>, is_over: bool, now: &str) -> bool {

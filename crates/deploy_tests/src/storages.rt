@@ -1,6 +1,7 @@
 //! Words on a storage of the active version.
 
 ghost use Rattle.std.specs.Prelude.{◌≡◌, ◌<◌, OnOk};
+ghost use Rattle.deploy.specs.Roots.{IsRootOf};
 ghost use Rattle.deployment_model.specs.Conditions.{IsStorage};
 ghost use Rattle.deployment_model.specs.Data.{storage_data};
 ghost use Rattle.element_maps.specs.Storages.{IsConfigured};
@@ -10,15 +11,15 @@ ghost use Rattle.per_base.specs.declared.elements.StoreKind.TheVariants.{Keys};
 use crate::calls::name_of;
 use crate::courses::add;
 use crate::faults::Fault;
-use crate::refusals::{outcome_text, refusal_text};
+use crate::refusals::outcome_text;
 use crate::things::things;
 use case_words::{cut, text};
-use deploy::{Root, open_root, recover_storage, reset_storage, shape_of};
+use deploy::{Installed, Root, Stop, open_root, recover_storage, reset_storage, shape_of};
 use deployment_model::StorageConfig;
 use disk_model::MemDisk;
 use element_store::{Shape, StoreError, open_store};
-use kvs_store::{Kvs, SyncFault, open_kvs};
-use per_base::StoreKind;
+use kvs_store::{Kvs, OpenedKvs, SyncFault, open_kvs};
+use per_base::{PerError, StoreKind};
 use std::alloc::Global;
 use value_text::parse_value;
 
@@ -36,10 +37,28 @@ pub fn stored(
 ) -> Result<(), Fault>
     requires { app < 8 }
 {
-    let (name, rest) = cut(rest, ':');
-    let Root::Installed(root) = open_root(alloc, disk, app)? else {
-        return Err(Fault::CaseError);
+    let root = open_root(alloc, disk, app)?;
+    let told = match &root {
+        Root::Installed(installed) => stored_in(alloc, disk, app, installed, verb, rest, said),
+        _ => Err(Fault::CaseError),
     };
+    drop(root);
+    told
+}
+
+fn stored_in(
+    alloc: Global,
+    disk: &mut MemDisk,
+    app: u32,
+    root: &Installed,
+    verb: &str,
+    rest: &str,
+    said: &mut String,
+) -> Result<(), Fault>
+    requires app { app < 8 }
+    requires root { IsRootOf app (Root.Installed root.now) }
+{
+    let (name, rest) = cut(rest, ':');
     let mut number = 0;
     for config in root.active.deployment.storages.as_slice() {
         if config.name.as_str() == name {
@@ -69,16 +88,15 @@ fn worded(
         "open" => opened(alloc, disk, shape),
         "set" if config.kind == StoreKind::Keys => set(alloc, disk, shape, config, rest),
         "thing" if config.kind == StoreKind::Keys => things(alloc, disk, shape, config, rest),
-        "recover" => {
-            let refused = recover_storage(alloc, disk, &shape, config, RECOVERED)?;
-            Ok(outcome_text(alloc, refused.as_ref())?)
-        }
-        "reset" => {
-            let refused = reset_storage(alloc, disk, &shape, config, RECOVERED)?;
-            Ok(outcome_text(alloc, refused.as_ref())?)
-        }
+        "recover" => ended(alloc, recover_storage(alloc, disk, &shape, config, RECOVERED)),
+        "reset" => ended(alloc, reset_storage(alloc, disk, &shape, config, RECOVERED)),
         _ => Err(Fault::CaseError),
     }
+}
+
+// How a recovery or a reset ended.
+fn ended(alloc: Global, refused: Result<Option<PerError>, Stop>) -> Result<String, Fault> {
+    Ok(outcome_text(alloc, refused?)?)
 }
 
 // `open`: brings every copy to what the storage opens at.
@@ -86,7 +104,10 @@ fn opened(alloc: Global, disk: &mut MemDisk, shape: Shape) -> Result<String, Fau
     requires { IsShape shape }
 {
     match open_store(alloc, disk, shape) {
-        Ok(_opened) => Ok(text(alloc, "ok")?),
+        Ok(opened) => {
+            drop(opened);
+            Ok(text(alloc, "ok")?)
+        }
         Err(StoreError::Corrupt) => Ok(text(alloc, "corrupt")?),
         Err(error) => Err(error.into()),
     }
@@ -103,16 +124,44 @@ fn set(
     requires config { IsStorage (storage_data config.now) }
     requires configured { IsConfigured Keys (storage_data config.now) shape }
 {
-    let mut kvs = open_kvs(alloc, disk, shape, config)?.kvs;
-    for pair in pairs.split('+') {
-        set_one(alloc, &mut kvs, pair)?;
+    let mut kvs = kvs_of(open_kvs(alloc, disk, shape, config)?);
+    match set_all(alloc, &mut kvs, pairs) {
+        Ok(()) => synced(alloc, kvs.sync_to_storage(disk)),
+        Err(fault) => {
+            drop(kvs);
+            Err(fault)
+        }
     }
-    match kvs.sync_to_storage(disk) {
-        Ok(_kvs) => Ok(text(alloc, "ok")?),
+}
+
+/// The storage in use alone.
+pub fn kvs_of(opened: OpenedKvs) -> Kvs
+    ensures { result ≡ opened.kvs }
+{
+    let OpenedKvs { kvs, reports } = opened;
+    drop(reports);
+    kvs
+}
+
+fn synced(alloc: Global, ended: Result<Kvs, SyncFault>) -> Result<String, Fault> {
+    let done = match &ended {
+        Ok(_) => Ok(()),
         Err(SyncFault::Device) => Err(Fault::Device),
         Err(SyncFault::WornOut(_)) => Err(Fault::CaseError),
         Err(SyncFault::OutOfMemory(_)) => Err(Fault::OutOfMemory),
+    };
+    drop(ended);
+    done?;
+    Ok(text(alloc, "ok")?)
+}
+
+fn set_all(alloc: Global, kvs: &mut Kvs, pairs: &str) -> Result<(), Fault>
+    ensures { OnOk result (kvs.new.store ≡ kvs.old.store) }
+{
+    for pair in pairs.split('+') {
+        set_one(alloc, kvs, pair)?;
     }
+    Ok(())
 }
 
 fn set_one(alloc: Global, kvs: &mut Kvs, pair: &str) -> Result<(), Fault>
@@ -125,6 +174,9 @@ fn set_one(alloc: Global, kvs: &mut Kvs, pair: &str) -> Result<(), Fault>
     };
     match kvs.set_any(&key, value) {
         Ok(()) => Ok(()),
-        Err(_) => Err(Fault::CaseError),
+        Err(error) => {
+            drop(error);
+            Err(Fault::CaseError)
+        }
     }
 }

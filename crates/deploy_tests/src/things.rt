@@ -9,13 +9,16 @@ use crate::calls::name_of;
 use crate::courses::add;
 use crate::faults::Fault;
 use crate::refusals::outcome_text;
+use crate::storages::kvs_of;
 use case_words::{cut, small};
 use deployment_model::StorageConfig;
 use disk_model::MemDisk;
 use element_store::Shape;
 use kvs_store::{Kvs, open_kvs};
 use per_base::{Bytes, Name, PerError};
+use per_value::PerValue;
 use std::alloc::{AllocError, Global};
+use value_model::Value;
 
 // Lists in lists, whose type is 8 deep.
 type Eight = Vec<Vec<Vec<Vec<Vec<Vec<Vec<u8>>>>>>>;
@@ -31,10 +34,16 @@ pub fn things(
     requires config { IsStorage (storage_data config.now) }
     requires configured { IsConfigured Keys (storage_data config.now) shape }
 {
-    let mut kvs = open_kvs(alloc, disk, shape, config)?.kvs;
+    let mut kvs = kvs_of(open_kvs(alloc, disk, shape, config)?);
+    let said = put_things(alloc, &mut kvs, pairs);
+    drop(kvs);
+    said
+}
+
+fn put_things(alloc: Global, kvs: &mut Kvs, pairs: &str) -> Result<String, Fault> {
     let mut said = String::new(alloc);
     for pair in pairs.split('+') {
-        put_thing(alloc, &mut kvs, pair, &mut said)?;
+        put_thing(alloc, kvs, pair, &mut said)?;
     }
     Ok(said)
 }
@@ -42,8 +51,7 @@ pub fn things(
 fn put_thing(alloc: Global, kvs: &mut Kvs, pair: &str, said: &mut String) -> Result<(), Fault> {
     let (key, thing) = cut(pair, '=');
     let key = name_of(alloc, key)?;
-    let refused = set_thing(alloc, kvs, &key, thing)?;
-    let answer = outcome_text(alloc, refused.as_ref())?;
+    let answer = outcome_text(alloc, set_thing(alloc, kvs, &key, thing)?)?;
     add(said, answer.as_str())?;
     put_length(alloc, kvs, &key, said)
 }
@@ -57,13 +65,16 @@ fn set_thing(
 ) -> Result<Option<PerError>, Fault> {
     let (kind, count) = cut(thing, ':');
     let count = small(count)? as usize;
-    let set = match kind {
-        "bytes" => kvs.set_value(key, &bytes(alloc, count)?),
-        "eight" => kvs.set_value(key, &eight(alloc, count)?),
-        "nine" => kvs.set_value(key, &listed(alloc, eight(alloc, count)?)?),
-        _ => return Err(Fault::CaseError),
-    };
-    Ok(set.err())
+    match kind {
+        "bytes" => Ok(set(kvs, key, bytes(alloc, count)?)),
+        "eight" => Ok(set(kvs, key, eight(alloc, count)?)),
+        "nine" => Ok(set(kvs, key, nine(alloc, count)?)),
+        _ => Err(Fault::CaseError),
+    }
+}
+
+fn set<T: PerValue + Drop>(kvs: &mut Kvs, key: &Name, thing: T) -> Option<PerError> {
+    kvs.set_value(key, &thing).err()
 }
 
 fn bytes(alloc: Global, count: usize) -> Result<Bytes, AllocError> {
@@ -77,6 +88,10 @@ fn eight(alloc: Global, count: usize) -> Result<Eight, AllocError> {
     listed(alloc, listed(alloc, six)?)
 }
 
+fn nine(alloc: Global, count: usize) -> Result<Vec<Eight>, AllocError> {
+    listed(alloc, eight(alloc, count)?)
+}
+
 // A list of one thing.
 fn listed<T: Drop>(alloc: Global, thing: T) -> Result<Vec<T>, AllocError> {
     let mut list = Vec::new(alloc);
@@ -86,9 +101,13 @@ fn listed<T: Drop>(alloc: Global, thing: T) -> Result<Vec<T>, AllocError> {
 
 // Adds in how many bytes the value of a key is encoded, or why it cannot be read.
 fn put_length(alloc: Global, kvs: &Kvs, key: &Name, said: &mut String) -> Result<(), Fault> {
-    let answer = match kvs.get_any(key) {
-        Ok(value) => format!(in alloc; "{} bytes", value.encoded_len())?,
-        Err(error) => outcome_text(alloc, Some(&error))?,
-    };
+    let answer = length_text(alloc, kvs.get_any(key))?;
     Ok(add(said, answer.as_str())?)
+}
+
+fn length_text(alloc: Global, value: Result<&Value, PerError>) -> Result<String, AllocError> {
+    match value {
+        Ok(value) => format!(in alloc; "{} bytes", value.encoded_len()),
+        Err(error) => outcome_text(alloc, Some(error)),
+    }
 }

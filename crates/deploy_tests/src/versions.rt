@@ -58,17 +58,29 @@ fn put_storage(
     ensures { (mem_medium disk.new).image ≡ (mem_medium disk.old).image }
 {
     let shape = shape_of(app, bank, number, config)?;
+    let found = inspect(alloc, disk, &shape);
+    let told = put_found(alloc, config, &found, said);
+    drop(found);
+    told
+}
+
+fn put_found(
+    alloc: Global,
+    config: &StorageConfig,
+    found: &Result<View, StoreError>,
+    said: &mut String,
+) -> Result<(), Fault> {
     let name = config.name.as_str();
-    match inspect(alloc, disk, &shape) {
+    match found {
         Ok(view) => {
             write!(said, " {name}")?;
-            put_view(alloc, said, config.kind, &view)
+            put_view(alloc, said, config.kind, view)
         }
         Err(StoreError::Corrupt) => {
             write!(said, " {name} corrupt")?;
             Ok(())
         }
-        Err(error) => Err(error.into()),
+        Err(error) => Err((*error).into()),
     }
 }
 
@@ -120,7 +132,11 @@ fn content_text(alloc: Global, kind: StoreKind, content: &Content) -> Result<Str
 // The value of a key, or its bytes where they encode none.
 fn key_text(alloc: Global, bytes: &[u8]) -> Result<String, Fault> {
     match decode(alloc, bytes) {
-        Ok(value) => Ok(print_value(alloc, &value)?),
+        Ok(value) => {
+            let text = print_value(alloc, &value);
+            drop(value);
+            Ok(text?)
+        }
         Err(DecodeError::NotAValue) => Ok(bytes_text(alloc, bytes)?),
         Err(DecodeError::OutOfMemory) => Err(Fault::OutOfMemory),
     }

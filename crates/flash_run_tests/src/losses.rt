@@ -51,7 +51,9 @@ impl<'a> Losses<'a> {
     fn found(&self, first: usize, count: usize) -> Result<String, AllocError> {
         let mut flash = self.flash.copy(self.alloc, None)?;
         flash.lose(first, count);
-        let (ran, _) = run_over_flash(self.alloc, self.words, self.migrations, self.look, flash)?;
+        let (ran, flash) =
+            run_over_flash(self.alloc, self.words, self.migrations, self.look, flash)?;
+        drop(flash);
         ran.answers(self.alloc)
     }
 }

@@ -79,8 +79,7 @@ pub(crate) fn run_over_flash<F: Flash + Drop>(
         FlashRun::Ran(status, disk) => (status, disk.into_flash()),
         FlashRun::Unopened(status, flash) => (status, flash),
     };
-    let output = String::from_utf8_lossy(alloc, sink.bytes())?;
-    Ok((Ran { status, output }, flash))
+    Ok((ran_to(alloc, status, source, sink)?, flash))
 }
 
 /// The same over a disk.
@@ -95,8 +94,23 @@ pub(crate) fn run_over_disk(
     let mut source = source_of(alloc, input)?;
     let mut sink = MemSink::new(alloc, SINK_PIECE, Vec::new(alloc));
     let status = per_run(alloc, &words, migrations, &mut source, &mut sink, disk);
-    let output = String::from_utf8_lossy(alloc, sink.bytes())?;
-    Ok(Ran { status, output })
+    ran_to(alloc, status, source, sink)
+}
+
+/// What came of a run with these streams, which go with it.
+fn ran_to(
+    alloc: Global,
+    status: u8,
+    source: MemSource,
+    sink: MemSink,
+) -> Result<Ran, AllocError> {
+    let output = String::from_utf8_lossy(alloc, sink.bytes());
+    drop(source);
+    drop(sink);
+    Ok(Ran {
+        status,
+        output: output?,
+    })
 }
 
 fn source_of(alloc: Global, input: &str) -> Result<MemSource, AllocError> {

@@ -119,7 +119,10 @@ impl Script {
         words: &str,
     ) -> Result<String, AllocError> {
         let lines = self.input()?;
-        self.sweep(migrations, words, lines.as_str())?.outages()
+        let sweep = self.sweep(migrations, words, lines.as_str())?;
+        let told = sweep.outages();
+        drop(sweep);
+        told
     }
 
     /// What comes of the lines with each call failing alone.
@@ -129,16 +132,21 @@ impl Script {
         words: &str,
     ) -> Result<String, AllocError> {
         let lines = self.input()?;
-        self.sweep(migrations, words, lines.as_str())?.failures()
+        let sweep = self.sweep(migrations, words, lines.as_str())?;
+        let told = sweep.failures();
+        drop(sweep);
+        told
     }
 
     /// What the lines cost.
     pub(crate) fn cost(&self, migrations: &Migrations, words: &str) -> Result<String, AllocError> {
-        let start = self.replayed(migrations, Device::new(self.alloc, self.blocks)?)?;
         let input = self.input()?;
-        let flash = start.copy(self.alloc, None)?;
-        let (_, flash) = run_over_flash(self.alloc, words, migrations, input.as_str(), flash)?;
+        let start = self.replayed(migrations, Device::new(self.alloc, self.blocks)?)?;
+        let flash = start.copy(self.alloc, None);
+        drop(start);
+        let (_, flash) = run_over_flash(self.alloc, words, migrations, input.as_str(), flash?)?;
         let (programmed, erased) = flash.cost();
+        drop(flash);
         format!(in self.alloc; "= {programmed} pages programmed, {erased} blocks erased\n")
     }
 
@@ -157,7 +165,9 @@ impl Script {
             flash: self.replayed(migrations, Device::new(self.alloc, self.blocks)?)?,
             look: self.look.as_str(),
         };
-        losses.shown(count as usize, step as usize)
+        let shown = losses.shown(count as usize, step as usize);
+        drop(losses);
+        shown
     }
 
     /// Lines on the flash on which all was run that was run so far.
@@ -227,7 +237,9 @@ impl Script {
         for _ in 0..20 {
             let middle = few.saturating_add(enough) / 2;
             let (_, flash) = self.stopped(migrations, words, input, middle)?;
-            if flash.faults() == 0 {
+            let faults = flash.faults();
+            drop(flash);
+            if faults == 0 {
                 enough = middle;
             } else {
                 few = middle;
@@ -246,7 +258,9 @@ impl Script {
     ) -> Result<String, AllocError> {
         let (_, mut flash) = self.stopped(migrations, words, input, passing)?;
         flash.restart();
-        let (ran, _) = run_over_flash(self.alloc, words, migrations, self.look.as_str(), flash)?;
+        let look = self.look.as_str();
+        let (ran, flash) = run_over_flash(self.alloc, words, migrations, look, flash)?;
+        drop(flash);
         ran.answers(self.alloc)
     }
 }

@@ -53,9 +53,10 @@ impl Session {
 
     /// Begins with a fresh flash and an empty disk.
     fn begin(&mut self, blocks: u32) -> Result<(), AllocError> {
-        self.flash = Some(MemFlash::new(self.alloc, blocks)?);
-        self.disk = MemDisk::new(self.alloc);
-        self.script = Script::new(self.alloc, blocks);
+        drop(self.flash.replace(MemFlash::new(self.alloc, blocks)?));
+        drop(mem::replace(&mut self.disk, MemDisk::new(self.alloc)));
+        let script = Script::new(self.alloc, blocks);
+        drop(mem::replace(&mut self.script, script));
         Ok(())
     }
 
@@ -73,12 +74,12 @@ impl Session {
 
     /// Runs the lines over both.
     fn run(&mut self, migrations: &Migrations, words: &str) -> Result<String, RowError> {
+        let input = self.script.next_input(words)?;
         let Some(flash) = self.flash.take() else {
             return Err(RowError::NotARow);
         };
-        let input = self.script.next_input(words)?;
         let (ran, flash) = run_over_flash(self.alloc, words, migrations, input.as_str(), flash)?;
-        self.flash = Some(flash);
+        drop(self.flash.replace(flash));
         let other = run_over_disk(
             self.alloc,
             words,
@@ -108,7 +109,7 @@ impl Session {
     /// Restarts the disk with all that was written.
     fn restart(&mut self) -> Result<(), AllocError> {
         let disk = mem::replace(&mut self.disk, MemDisk::new(self.alloc));
-        self.disk = disk.crash(true)?;
+        drop(mem::replace(&mut self.disk, disk.crash(true)?));
         Ok(())
     }
 }

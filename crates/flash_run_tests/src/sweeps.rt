@@ -50,7 +50,7 @@ impl<'a> Sweep<'a> {
     /// the first call for which it is not so.
     pub(crate) fn failures(&self) -> Result<String, AllocError> {
         let states = self.states()?;
-        for call in 0..self.whole()?.calls() {
+        for call in 0..self.calls()? {
             if let Some(fault) = self.failed(&states, call, Leaves::Nothing)? {
                 return Ok(fault);
             }
@@ -89,6 +89,14 @@ impl<'a> Sweep<'a> {
         Ok(flash)
     }
 
+    /// How many calls all lines make.
+    fn calls(&self) -> Result<u64, AllocError> {
+        let whole = self.whole()?;
+        let calls = whole.calls();
+        drop(whole);
+        Ok(calls)
+    }
+
     /// What comes of the words over an input, and the flash.
     fn ran(&self, input: &str, cut: Option<Cut>) -> Result<(Ran, Device), AllocError> {
         let flash = self.start.copy(self.alloc, cut)?;
@@ -98,7 +106,9 @@ impl<'a> Sweep<'a> {
     /// What a look finds on a flash.
     fn found(&self, flash: Device) -> Result<String, AllocError> {
         let flash = flash.restarted();
-        let (ran, _) = run_over_flash(self.alloc, self.words, self.migrations, self.look, flash)?;
+        let (ran, flash) =
+            run_over_flash(self.alloc, self.words, self.migrations, self.look, flash)?;
+        drop(flash);
         ran.answers(self.alloc)
     }
 
@@ -143,6 +153,7 @@ impl<'a> Sweep<'a> {
         let input = format!(in self.alloc; "{}{}", self.lines, self.look)?;
         let (ran, flash) = self.ran(input.as_str(), Some(cut))?;
         if ran.status == 3 && ran.output.is_empty() && flash.is_like(&self.start) {
+            drop(flash);
             return Ok(None);
         }
         let found = self.found(flash)?;

@@ -62,7 +62,8 @@ impl Bench {
 
     // A step that answers a number.
     fn count(&mut self, step: &Step<'_>) -> Option<u64> {
-        match step.word {
+        let word = step.word;
+        match word {
             "blocks" => self.make(step.small(0)),
             "faults" => Some(self.flash.as_ref()?.faults()),
             "starved" => Some(self.flash.as_ref()?.starved()),
@@ -76,7 +77,8 @@ impl Bench {
     // A step that counts what of many calls was well.
     fn count_writes(&mut self, step: &Step<'_>) -> Option<u64> {
         let disk = self.disk.as_mut()?;
-        match step.word {
+        let word = step.word;
+        match word {
             "repeat" => Some(repeated(disk, step.small(0), step.small(1), step.number(2)) as u64),
             "fill" => Some(filled(disk, step.small(0), step.small(1)) as u64),
             "cold" => Some(cold_pages(disk) as u64),
@@ -88,7 +90,8 @@ impl Bench {
 
     // A step that answers how it went.
     fn call(&mut self, step: &Step<'_>) -> Option<&'static str> {
-        match step.word {
+        let word = step.word;
+        match word {
             "open" => Some(self.open()),
             "close" => Some(self.close()),
             "forget" => Some(self.forget(step)),
@@ -110,7 +113,8 @@ impl Bench {
     fn call_flash(&mut self, step: &Step<'_>) -> Option<&'static str> {
         let alloc = self.alloc;
         let flash = self.flash.as_mut()?;
-        match step.word {
+        let word = step.word;
+        match word {
             "stop" => flash.stop_after(step.number(0)),
             "fail" => flash.fail_calls(step.numbers(alloc).ok()?),
             "restart" => flash.restart(),
@@ -121,7 +125,8 @@ impl Bench {
 
     // A step that answers bytes.
     fn show(&mut self, step: &Step<'_>) -> Result<String, AllocError> {
-        match step.word {
+        let word = step.word;
+        match word {
             "read" => self.read(step),
             "page" => self.page(step),
             "record" => behind_hash(self.alloc, step),
@@ -243,7 +248,8 @@ impl Bench {
 
 // How a call of the flash went.
 fn called(flash: &mut MemFlash, step: &Step<'_>) -> Option<&'static str> {
-    let good = match step.word {
+    let word = step.word;
+    let good = match word {
         "erase" => erase(flash, step.small(0)),
         "settle" => flash.settle().is_ok(),
         "announce" => flash.announce(step.small(0), step.number(1), &[]).is_ok(),

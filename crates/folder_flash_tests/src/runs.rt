@@ -19,6 +19,25 @@ pub(crate) struct Ran {
 }
 
 impl Ran {
+    /// No step was taken.
+    fn without(alloc: Global, system: MemSystem) -> Ran {
+        Ran {
+            answers: Vec::new(alloc),
+            system,
+        }
+    }
+
+    /// These are the answers.
+    fn with(answers: Result<Vec<bool>, AllocError>, system: MemSystem) -> Result<Ran, AllocError> {
+        match answers {
+            Ok(answers) => Ok(Ran { answers, system }),
+            Err(error) => {
+                drop(system);
+                Err(error)
+            }
+        }
+    }
+
     /// How many steps succeeded before the first that failed.
     pub(crate) fn done(&self) -> usize {
         let mut count = 0usize;
@@ -48,34 +67,54 @@ pub(crate) fn run(
     system: MemSystem,
     steps: &[Step],
 ) -> Result<Ran, AllocError> {
-    let mut answers = Vec::new(alloc);
     if !system.is_whole() {
-        return Ok(Ran { answers, system });
+        return Ok(Ran::without(alloc, system));
     }
     match open(alloc, blocks, system) {
         Ok(mut flash) => {
-            for step in steps {
-                answers.push(step.take(&mut flash))?;
-            }
-            let system = flash.into_disk().into_system();
-            Ok(Ran { answers, system })
+            let answers = taken(alloc, &mut flash, steps);
+            Ran::with(answers, flash.into_disk().into_system())
         }
-        Err(system) => Ok(Ran { answers, system }),
+        Err(system) => Ok(Ran::without(alloc, system)),
     }
+}
+
+fn taken(
+    alloc: Global,
+    flash: &mut FolderFlash<MemSystem>,
+    steps: &[Step],
+) -> Result<Vec<bool>, AllocError> {
+    let mut answers = Vec::new(alloc);
+    for step in steps {
+        answers.push(step.take(flash))?;
+    }
+    Ok(answers)
 }
 
 /// Each page that is not blank, as it is read.
 pub(crate) fn pages(alloc: Global, blocks: u32, system: MemSystem) -> Result<String, AllocError> {
-    let mut shown = String::new(alloc);
     if !system.is_whole() {
-        return Ok(shown);
+        drop(system);
+        return Ok(String::new(alloc));
     }
-    let Ok(mut flash) = open(alloc, blocks, system) else {
-        return Ok(shown);
-    };
+    match open(alloc, blocks, system) {
+        Ok(mut flash) => {
+            let shown = shown(alloc, &mut flash);
+            drop(flash);
+            shown
+        }
+        Err(system) => {
+            drop(system);
+            Ok(String::new(alloc))
+        }
+    }
+}
+
+fn shown(alloc: Global, flash: &mut FolderFlash<MemSystem>) -> Result<String, AllocError> {
+    let mut shown = String::new(alloc);
     for block in 0..flash.blocks() {
         for page in 0..64 {
-            show(&mut shown, &mut flash, block, page)?;
+            show(&mut shown, flash, block, page)?;
         }
     }
     Ok(shown)

@@ -1,6 +1,6 @@
 //! Sessions: the flash of a folder from run to run.
 
-use crate::runs::{pages, run};
+use crate::runs::{Ran, pages, run};
 use crate::steps::Step;
 use crate::sweeps::Sweep;
 use mem_system::MemSystem;
@@ -32,16 +32,14 @@ impl Session {
         let (word, rest) = parted(row);
         match word {
             "flash" => {
-                *self = Session::new(self.alloc);
+                drop(mem::replace(self, Session::new(self.alloc)));
                 self.blocks = number(rest)?;
             }
             "program" => self.steps.push(programming(rest)?)?,
             "erase" => self.steps.push(Step::Erase(number(rest)?))?,
             "take" => return Ok(self.run()?),
             "pages" => return Ok(pages(self.alloc, self.blocks, self.system.restarted()?)?),
-            "kills" => return Ok(self.sweep()?.kills()?),
-            "failures" => return Ok(self.sweep()?.failures()?),
-            "syncs" => return Ok(self.sweep()?.syncs()?),
+            "kills" | "failures" | "syncs" => return Ok(self.swept(word)?),
             _ => {}
         }
         Ok(String::new(self.alloc))
@@ -50,14 +48,22 @@ impl Session {
     /// Takes the steps.
     fn run(&mut self) -> Result<String, AllocError> {
         let system = mem::replace(&mut self.system, MemSystem::new(self.alloc));
-        let ran = run(self.alloc, self.blocks, system, &self.steps)?;
+        let Ran { answers, system } = run(self.alloc, self.blocks, system, &self.steps)?;
+        drop(mem::replace(&mut self.system, system));
+        self.steps.clear();
         let mut shown = String::new(self.alloc);
-        for is_done in &ran.answers {
+        for is_done in &answers {
             shown.push_str(if *is_done { "= ok\n" } else { "= failed\n" })?;
         }
-        self.system = ran.system;
-        self.steps.clear();
         Ok(shown)
+    }
+
+    /// What a word tells of the steps so far.
+    fn swept(&self, word: &str) -> Result<String, AllocError> {
+        let sweep = self.sweep()?;
+        let told = sweep.told(word);
+        drop(sweep);
+        told
     }
 
     /// The steps so far, over the flash as the last run left it.
@@ -75,7 +81,7 @@ impl Session {
 fn programming(rest: &str) -> Result<Step, RowError> {
     let (block, rest) = parted(rest);
     let (page, byte) = parted(rest);
-    let byte = byte.parse::<u8>().map_err(|_| RowError::NotARow)?;
+    let byte = byte.parse::<u8>().ok().ok_or(RowError::NotARow)?;
     Ok(Step::Program(number(block)?, number(page)?, byte))
 }
 

@@ -4,6 +4,7 @@ use crate::runs::{Ran, run};
 use crate::steps::{Step, Tear, is_torn_by};
 use mem_system::{MemSystem, Trouble};
 use std::alloc::{AllocError, Global};
+use std::mem;
 
 /// What a power loss leaves of the writes that were not synced: nothing, all, halves, and these by turns.
 const SEEDS: [u64; 6] = [
@@ -45,70 +46,133 @@ impl Failing {
 }
 
 impl<'a> Sweep<'a> {
+    /// What one of the words `kills`, `failures` and `syncs` tells of the steps.
+    pub(crate) fn told(&self, word: &str) -> Result<String, AllocError> {
+        match word {
+            "kills" => self.kills(),
+            "failures" => self.failures(),
+            _ => self.syncs(),
+        }
+    }
+
     /// `= kept` where, with each call failing alone, each step changes its own pages alone, whole where it succeeds;
     /// and where power is lost after a change that it made, it changes no other page than its own, or nothing but
     /// pages of one step that failed since the last success. Else the first call and step for which it is not so.
-    pub(crate) fn failures(&self) -> Result<String, AllocError> {
-        self.failing(self.whole()?.system.calls(), Failing::Call)
+    fn failures(&self) -> Result<String, AllocError> {
+        self.failing(self.calls()?, Failing::Call)
     }
 
     /// The same with each sync failing alone.
-    pub(crate) fn syncs(&self) -> Result<String, AllocError> {
-        self.failing(self.whole()?.system.syncs(), Failing::Sync)
+    fn syncs(&self) -> Result<String, AllocError> {
+        let whole = self.whole()?;
+        let syncs = whole.system.syncs();
+        drop(whole);
+        self.failing(syncs, Failing::Sync)
     }
 
     /// `= kept` where, after a kill at each call, the steps that succeeded are done and no other page is changed but
     /// those of the next; and where power is lost after a change of a new run that takes the steps from that one on,
     /// each changes no page but its own. Else the first call and step for which it is not so.
-    pub(crate) fn kills(&self) -> Result<String, AllocError> {
-        for call in 0..self.whole()?.system.calls() {
+    fn kills(&self) -> Result<String, AllocError> {
+        for call in 0..self.calls()? {
             let killed = self.ran(self.steps.len(), Trouble::Kill(call))?;
-            let done = killed.done();
-            let kept = self.ran(done, Trouble::Nothing)?;
-            let next = self.tear(done, &kept);
-            if !is_torn_by(next, kept.system.bytes(FILE), killed.system.bytes(FILE)) {
-                return self.fault(call, done);
-            }
-            let opened = self.ran_again(call, done, done)?;
-            if !self.are_torn_by(next, &[], &killed.system, &opened.system)? {
-                return self.fault(call, done);
-            }
-            let mut before = opened;
-            for place in done..self.steps.len() {
-                let after = self.ran_again(call, done, place.saturating_add(1))?;
-                let is_done = after.is_done(place.saturating_sub(done));
-                if !is_done || !self.is_good(place, &[], is_done, &before, &after)? {
-                    return self.fault(call, place);
-                }
-                before = after;
+            let fault = self.killed(call, &killed);
+            drop(killed);
+            if let Some(step) = fault? {
+                return self.fault(call, step);
             }
         }
         String::from_str(self.alloc, "= kept\n")
+    }
+
+    /// The first step for which it is not so after a kill at a call.
+    fn killed(&self, call: u64, killed: &Ran) -> Result<Option<usize>, AllocError> {
+        let done = killed.done();
+        let next = self.next(done)?;
+        if !self.is_kept(done, next, killed)? {
+            return Ok(Some(done));
+        }
+        let mut before = self.ran_again(call, done, done)?;
+        let fault = self.goes_on(call, done, next, killed, &mut before);
+        drop(before);
+        fault
+    }
+
+    /// The step after that many.
+    fn next(&self, done: usize) -> Result<Option<Tear>, AllocError> {
+        let kept = self.ran(done, Trouble::Nothing)?;
+        let next = self.tear(done, &kept);
+        drop(kept);
+        Ok(next)
+    }
+
+    /// Whether a kill left what that many steps leave, but for what the next one may tear.
+    fn is_kept(&self, done: usize, next: Option<Tear>, killed: &Ran) -> Result<bool, AllocError> {
+        let kept = self.ran(done, Trouble::Nothing)?;
+        let is_kept = is_torn_by(next, kept.system.bytes(FILE), killed.system.bytes(FILE));
+        drop(kept);
+        Ok(is_kept)
+    }
+
+    /// The first step for which it is not so in a new run after a kill.
+    fn goes_on(
+        &self,
+        call: u64,
+        done: usize,
+        next: Option<Tear>,
+        killed: &Ran,
+        before: &mut Ran,
+    ) -> Result<Option<usize>, AllocError> {
+        if !self.are_torn_by(next, &[], &killed.system, &before.system)? {
+            return Ok(Some(done));
+        }
+        for place in done..self.steps.len() {
+            let after = self.ran_again(call, done, place.saturating_add(1))?;
+            let is_done = after.is_done(place.saturating_sub(done));
+            let is_good = self.is_good(place, &[], is_done, before, &after);
+            drop(mem::replace(before, after));
+            if !is_done || !is_good? {
+                return Ok(Some(place));
+            }
+        }
+        Ok(None)
     }
 
     fn failing(&self, count: u64, failing: Failing) -> Result<String, AllocError> {
         for call in 0..count {
             let trouble = failing.at(call);
             let mut before = self.ran(0, trouble)?;
-            if !self.are_torn_by(None, &[], &self.start, &before.system)? {
-                return self.fault(call, 0);
-            }
-            let mut failed = Vec::new(self.alloc);
-            for place in 0..self.steps.len() {
-                let after = self.ran(place.saturating_add(1), trouble)?;
-                let is_done = after.is_done(place);
-                if !self.is_good(place, &failed, is_done, &before, &after)? {
-                    return self.fault(call, place);
-                }
-                if is_done {
-                    failed.clear();
-                } else if let Some(tear) = self.tear(place, &before) {
-                    failed.push(tear)?;
-                }
-                before = after;
+            let fault = self.failed(trouble, &mut before);
+            drop(before);
+            if let Some(step) = fault? {
+                return self.fault(call, step);
             }
         }
         String::from_str(self.alloc, "= kept\n")
+    }
+
+    /// The first step for which it is not so in this trouble.
+    fn failed(&self, trouble: Trouble, before: &mut Ran) -> Result<Option<usize>, AllocError> {
+        if !self.are_torn_by(None, &[], &self.start, &before.system)? {
+            return Ok(Some(0));
+        }
+        let mut failed = Vec::new(self.alloc);
+        for place in 0..self.steps.len() {
+            let after = self.ran(place.saturating_add(1), trouble)?;
+            let is_done = after.is_done(place);
+            let is_good = self.is_good(place, &failed, is_done, before, &after);
+            let tear = self.tear(place, before);
+            drop(mem::replace(before, after));
+            if !is_good? {
+                return Ok(Some(place));
+            }
+            if is_done {
+                failed.clear();
+            } else if let Some(tear) = tear {
+                failed.push(tear)?;
+            }
+        }
+        Ok(None)
     }
 
     /// Whether a step did what it answered, and a power loss meanwhile tears no more than it may.
@@ -144,9 +208,9 @@ impl<'a> Sweep<'a> {
         for changes in before.changes()..=after.changes() {
             for seed in SEEDS {
                 let left = after.power_loss(changes, seed)?;
-                let new = left.bytes(FILE);
-                let is_other = |other: &Tear| is_torn_by(Some(*other), old, new);
-                if !is_torn_by(tear, old, new) && !others.iter().any(is_other) {
+                let is_torn = is_torn_by_one(tear, others, old, left.bytes(FILE));
+                drop(left);
+                if !is_torn {
                     return Ok(false);
                 }
             }
@@ -170,6 +234,14 @@ impl<'a> Sweep<'a> {
         self.ran(self.steps.len(), Trouble::Nothing)
     }
 
+    /// How many calls all steps make.
+    fn calls(&self) -> Result<u64, AllocError> {
+        let whole = self.whole()?;
+        let calls = whole.system.calls();
+        drop(whole);
+        Ok(calls)
+    }
+
     /// What comes of the first of the steps.
     fn ran(&self, count: usize, trouble: Trouble) -> Result<Ran, AllocError> {
         let mut system = self.start.restarted()?;
@@ -184,8 +256,9 @@ impl<'a> Sweep<'a> {
 
     /// What comes of the steps from one place to another in a new run, after one that was killed.
     fn ran_again(&self, call: u64, from: usize, to: usize) -> Result<Ran, AllocError> {
-        let killed = self.ran(self.steps.len(), Trouble::Kill(call))?;
-        let mut system = killed.system;
+        let Ran { answers, system } = self.ran(self.steps.len(), Trouble::Kill(call))?;
+        drop(answers);
+        let mut system = system;
         system.set_trouble(Trouble::Nothing);
         run(
             self.alloc,
@@ -199,4 +272,10 @@ impl<'a> Sweep<'a> {
         let fault = format!(in self.alloc; "= call {call}, step {step}\n")?;
         Ok(fault)
     }
+}
+
+/// Whether the step, or one of the others, may have torn what is changed.
+fn is_torn_by_one(tear: Option<Tear>, others: &[Tear], old: &[u8], new: &[u8]) -> bool {
+    let is_other = |other: &Tear| is_torn_by(Some(*other), old, new);
+    is_torn_by(tear, old, new) || others.iter().any(is_other)
 }

@@ -64,36 +64,80 @@ pub(crate) fn run(
     input: &str,
     system: MemSystem,
 ) -> Result<(Ran, MemSystem), AllocError> {
-    let words = words_of(alloc, words)?;
-    let bytes = String::from_str(alloc, input)?.into_bytes();
-    let mut source = MemSource::new(bytes, PIECE, Vec::new(alloc));
-    let mut sink = MemSink::new(alloc, PIECE, Vec::new(alloc));
-    let (status, system) = if system.is_whole() {
-        run_over(alloc, &words, migrations, &mut source, &mut sink, system)
-    } else {
-        (UNOPENED, system)
-    };
-    let output = String::from_utf8_lossy(alloc, sink.bytes())?;
-    Ok((Ran { status, output }, system))
+    match Streams::new(alloc, words, input) {
+        Ok(mut streams) => {
+            let (status, system) = if system.is_whole() {
+                streams.run_over(alloc, migrations, system)
+            } else {
+                (UNOPENED, system)
+            };
+            let output = String::from_utf8_lossy(alloc, streams.sink.bytes());
+            drop(streams);
+            with_system(status, output, system)
+        }
+        Err(error) => {
+            drop(system);
+            Err(error)
+        }
+    }
 }
 
-/// Runs the program over a folder of which nothing is lost.
-fn run_over(
-    alloc: Global,
-    words: &[String],
-    migrations: &Migrations,
-    source: &mut MemSource,
-    sink: &mut MemSink,
+fn with_system(
+    status: u8,
+    output: Result<String, AllocError>,
     system: MemSystem,
-) -> (u8, MemSystem)
-    requires { (f : ℕ) → IsWhole (mem_medium system) f }
-{
-    match FolderDisk::open(alloc, system) {
-        Ok(mut disk) => {
-            let status = per_run(alloc, words, migrations, source, sink, &mut disk);
-            (status, disk.into_system())
+) -> Result<(Ran, MemSystem), AllocError> {
+    match output {
+        Ok(output) => Ok((Ran { status, output }, system)),
+        Err(error) => {
+            drop(system);
+            Err(error)
         }
-        Err(refused) => (UNOPENED, refused.system),
+    }
+}
+
+/// The words of a run, and its streams.
+#[derive(Drop)]
+struct Streams {
+    words: Vec<String>,
+    source: MemSource,
+    sink: MemSink,
+}
+
+impl Streams {
+    fn new(alloc: Global, words: &str, input: &str) -> Result<Streams, AllocError> {
+        let words = words_of(alloc, words)?;
+        let bytes = String::from_str(alloc, input)?.into_bytes();
+        Ok(Streams {
+            words,
+            source: MemSource::new(bytes, PIECE, Vec::new(alloc)),
+            sink: MemSink::new(alloc, PIECE, Vec::new(alloc)),
+        })
+    }
+
+    /// Runs the program over a folder of which nothing is lost.
+    fn run_over(
+        &mut self,
+        alloc: Global,
+        migrations: &Migrations,
+        system: MemSystem,
+    ) -> (u8, MemSystem)
+        requires { (f : ℕ) → IsWhole (mem_medium system) f }
+    {
+        match FolderDisk::open(alloc, system) {
+            Ok(mut disk) => {
+                let status = per_run(
+                    alloc,
+                    &self.words,
+                    migrations,
+                    &mut self.source,
+                    &mut self.sink,
+                    &mut disk,
+                );
+                (status, disk.into_system())
+            }
+            Err(refused) => (UNOPENED, refused.system),
+        }
     }
 }
 

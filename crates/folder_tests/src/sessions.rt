@@ -32,15 +32,12 @@ impl Session {
     pub(crate) fn take(&mut self, migrations: &Migrations, row: &str) -> Result<String, RowError> {
         let (word, rest) = parted(row);
         match word {
-            "folder" => *self = Session::new(self.alloc),
+            "folder" => drop(mem::replace(self, Session::new(self.alloc))),
             ">" => push_line(&mut self.lines, &spelled(self.alloc, rest)?)?,
             "?" => push_line(&mut self.look, rest)?,
             "spoil" => self.spoil(rest)?,
             "run" => return Ok(self.run(migrations, rest)?),
-            "kills" => return self.sweep(migrations, rest)?.kills(),
-            "failures" => return self.sweep(migrations, rest)?.failures(),
-            "syncs" => return self.sweep(migrations, rest)?.syncs(),
-            "damages" => return self.sweep(migrations, rest)?.damages(),
+            "kills" | "failures" | "syncs" | "damages" => return self.swept(migrations, word, rest),
             _ => {}
         }
         Ok(String::new(self.alloc))
@@ -50,7 +47,7 @@ impl Session {
     fn run(&mut self, migrations: &Migrations, words: &str) -> Result<String, AllocError> {
         let system = mem::replace(&mut self.system, MemSystem::new(self.alloc));
         let (ran, system) = run(self.alloc, words, migrations, self.lines.as_str(), system)?;
-        self.system = system;
+        drop(mem::replace(&mut self.system, system));
         self.lines.clear();
         ran.shown(self.alloc)
     }
@@ -67,6 +64,19 @@ impl Session {
             }
         }
         Ok(())
+    }
+
+    /// What a word tells of the lines so far.
+    fn swept(
+        &mut self,
+        migrations: &Migrations,
+        word: &str,
+        words: &str,
+    ) -> Result<String, RowError> {
+        let sweep = self.sweep(migrations, words)?;
+        let told = sweep.told(word);
+        drop(sweep);
+        told
     }
 
     /// The lines so far, over the folder as the last run left it.

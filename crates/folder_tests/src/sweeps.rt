@@ -48,19 +48,30 @@ impl Failing {
 }
 
 impl<'a> Sweep<'a> {
+    /// What one of the words `kills`, `failures`, `syncs` and `damages` tells of the lines.
+    pub(crate) fn told(&self, word: &str) -> Result<String, RowError> {
+        match word {
+            "kills" => self.kills(),
+            "failures" => self.failures(),
+            "syncs" => self.syncs(),
+            _ => self.damages(),
+        }
+    }
+
     /// What a look finds after each number of lines; then `= kept` where it finds, after a kill at each call of the
     /// system, what it does after the lines that were answered or after one more, and does so after a power loss
     /// after each change of the run that looked, whatever is left of what was not synced; and where power is lost
     /// after that run, the same as it did. Else the first call for which it does not.
-    pub(crate) fn kills(&self) -> Result<String, RowError> {
+    fn kills(&self) -> Result<String, RowError> {
         let states = self.states()?;
         let mut shown = self.shown(&states)?;
         let mut last = None;
-        for call in 0..self.whole()?.calls() {
+        for call in 0..self.calls()? {
             let (ran, system) = self.ran(self.lines, Trouble::Kill(call))?;
             let count = answered(ran.output.as_str());
             let place = Some((system.changes(), count));
             if place == last {
+                drop(system);
                 continue;
             }
             last = place;
@@ -76,13 +87,16 @@ impl<'a> Sweep<'a> {
     /// What a look finds after each number of lines; then `= kept` where, after each call that fails alone and a power
     /// loss after the run, it finds what it does after the last line that was handled and changes that, or after a
     /// later one. Else the first call for which it does not.
-    pub(crate) fn failures(&self) -> Result<String, RowError> {
-        self.failing(self.whole()?.calls(), Failing::Call)
+    fn failures(&self) -> Result<String, RowError> {
+        self.failing(self.calls()?, Failing::Call)
     }
 
     /// The same with each sync failing alone.
-    pub(crate) fn syncs(&self) -> Result<String, RowError> {
-        self.failing(self.whole()?.syncs(), Failing::Sync)
+    fn syncs(&self) -> Result<String, RowError> {
+        let whole = self.whole()?;
+        let syncs = whole.syncs();
+        drop(whole);
+        self.failing(syncs, Failing::Sync)
     }
 
     fn failing(&self, count: u64, failing: Failing) -> Result<String, RowError> {
@@ -92,7 +106,9 @@ impl<'a> Sweep<'a> {
             let (ran, system) = self.ran(self.lines, failing.at(call))?;
             let least = handled(&states, &ran);
             let later = states.get(least..).unwrap_or(&[]);
-            if let Some(fault) = self.lost_behind(later, &system)? {
+            let fault = self.lost_behind(later, &system);
+            drop(system);
+            if let Some(fault) = fault? {
                 write!(shown, "= call {call}: {fault}\n")?;
                 return Ok(shown);
             }
@@ -103,16 +119,14 @@ impl<'a> Sweep<'a> {
 
     /// What a look finds; then `= kept` where it finds the same with each file unreadable alone, whole, in its second
     /// half and in its middle byte. Else the first file for which it does not.
-    pub(crate) fn damages(&self) -> Result<String, RowError> {
+    fn damages(&self) -> Result<String, RowError> {
         let whole = self.found(self.start.restarted()?)?;
         let mut shown = String::new(self.alloc);
         write!(shown, "< {whole}\n")?;
         for file in &self.files {
             let len = self.start.bytes(*file).len() as u64;
             for (at, count) in [(0, len), (len / 2, len), (len / 2, 1)] {
-                let mut system = self.start.restarted()?;
-                system.spoil(*file, at, count)?;
-                let found = self.found(system)?;
+                let found = self.found_without(*file, at, count)?;
                 if found.as_str() != whole.as_str() {
                     write!(shown, "= file {file} from {at} on: {found}\n")?;
                     return Ok(shown);
@@ -121,6 +135,18 @@ impl<'a> Sweep<'a> {
         }
         shown.push_str("= kept\n")?;
         Ok(shown)
+    }
+
+    /// What a look finds where these bytes of a file are unreadable.
+    fn found_without(&self, file: u32, at: u64, count: u64) -> Result<String, AllocError> {
+        let mut system = self.start.restarted()?;
+        match system.spoil(file, at, count) {
+            Ok(()) => self.found(system),
+            Err(error) => {
+                drop(system);
+                Err(error)
+            }
+        }
     }
 
     fn shown(&self, states: &[String]) -> Result<String, AllocError> {
@@ -154,6 +180,14 @@ impl<'a> Sweep<'a> {
         Ok(system)
     }
 
+    /// How many calls all lines make.
+    fn calls(&self) -> Result<u64, AllocError> {
+        let whole = self.whole()?;
+        let calls = whole.calls();
+        drop(whole);
+        Ok(calls)
+    }
+
     /// What comes of an input, and the folder.
     fn ran(&self, input: &str, trouble: Trouble) -> Result<(Ran, MemSystem), AllocError> {
         let mut system = self.start.restarted()?;
@@ -163,7 +197,8 @@ impl<'a> Sweep<'a> {
 
     /// What a look finds in a folder.
     fn found(&self, system: MemSystem) -> Result<String, AllocError> {
-        let (ran, _) = run(self.alloc, self.words, self.migrations, self.look, system)?;
+        let (ran, system) = run(self.alloc, self.words, self.migrations, self.look, system)?;
+        drop(system);
         ran.answers(self.alloc)
     }
 
@@ -180,16 +215,29 @@ impl<'a> Sweep<'a> {
         let first = system.changes();
         system.set_trouble(Trouble::Nothing);
         let (looked, system) = run(self.alloc, self.words, self.migrations, self.look, system)?;
+        let fault = self.looked_at(wanted, &looked, &system, first);
+        drop(system);
+        fault
+    }
+
+    /// What is wrong with what a look found, or does after a power loss after a change from the first one on.
+    fn looked_at(
+        &self,
+        wanted: &[String],
+        looked: &Ran,
+        system: &MemSystem,
+        first: usize,
+    ) -> Result<Option<String>, AllocError> {
         let found = looked.answers(self.alloc)?;
         if !is_among(wanted, found.as_str()) {
             return Ok(Some(found));
         }
         for seed in SEEDS {
-            if let Some(fault) = self.lost(wanted, &system, first, seed)? {
+            if let Some(fault) = self.lost(wanted, system, first, seed)? {
                 return Ok(Some(fault));
             }
         }
-        self.lost_behind(&[found], &system)
+        self.lost_behind(&[found], system)
     }
 
     /// What is wrong after a power loss after the run.
@@ -214,15 +262,13 @@ impl<'a> Sweep<'a> {
         first: usize,
         seed: u64,
     ) -> Result<Option<String>, AllocError> {
-        let mut last: Option<MemSystem> = None;
+        let mut last = None;
         for changes in first..=system.changes() {
-            let left = system.power_loss(changes, seed)?;
-            if is_same(&last, &left) {
-                continue;
-            }
-            last = Some(left.restarted()?);
-            let found = self.found(left)?;
-            if !is_among(wanted, found.as_str()) {
+            let fault = match system.power_loss(changes, seed) {
+                Ok(left) => self.found_in(wanted, left, &mut last),
+                Err(error) => Err(error),
+            };
+            if let Some(found) = fault? {
                 let fault = format!(in self.alloc;
                     "power lost after change {changes}, {seed}: {found}"
                 )?;
@@ -230,6 +276,31 @@ impl<'a> Sweep<'a> {
             }
         }
         Ok(None)
+    }
+
+    /// What a look finds in a folder where that is not wanted. In one like the last it is not looked for again.
+    fn found_in(
+        &self,
+        wanted: &[String],
+        left: MemSystem,
+        last: &mut Option<MemSystem>,
+    ) -> Result<Option<String>, AllocError> {
+        if is_same(last, &left) {
+            drop(left);
+            return Ok(None);
+        }
+        match left.restarted() {
+            Ok(left) => drop(last.replace(left)),
+            Err(error) => {
+                drop(left);
+                return Err(error);
+            }
+        }
+        let found = self.found(left)?;
+        if is_among(wanted, found.as_str()) {
+            return Ok(None);
+        }
+        Ok(Some(found))
     }
 }
 

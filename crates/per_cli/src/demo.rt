@@ -1,13 +1,17 @@
 //! A first session, shown whole.
 
-use crate::program;
-use per_terminal::{NO_DISK, NO_OUTPUT, Screen, no_memory, say, say_command, say_stream, typed};
+use crate::causes::say_stream;
+use crate::saying::{Screen, say, say_command, typed};
+use crate::{NO_OUTPUT, program};
 use std::alloc::{AllocError, Global};
 use std::cell::Cell;
 use std::env::{self, Env};
 use std::fs::{self, File};
 use std::io::{self, Read, Write};
 use std::rt::Files;
+
+/// The status where the folder cannot be made.
+const NO_FOLDER: u8 = 3;
 
 /// The lines of the first run.
 const FIRST_RUN: [&str; 6] = [
@@ -80,7 +84,7 @@ pub(crate) fn show<R: Files<File = File> + AllocGlobal + Env + Print + Screen>(
 /// Says why the session cannot be shown, and gives the status.
 fn not_shown<R: Screen>(rt: &R, alloc: Global, error: io::Error) -> u8 {
     match error.kind() {
-        io::ErrorKind::OutOfMemory => no_memory(rt),
+        io::ErrorKind::OutOfMemory => program::no_memory(rt),
         _ => {
             let _ = say_stream(rt, alloc, "standard output", Some(error));
             NO_OUTPUT
@@ -97,7 +101,7 @@ fn shown<R: Files<File = File> + AllocGlobal + Env + Print + Screen>(
     if let Err(error) = fs::create_dir(rt, dir.as_str()) {
         let line = format!(in rt.alloc(); "per: the folder {dir} cannot be made: {error}");
         let _ = say(rt, rt.alloc(), line);
-        return Ok(NO_DISK);
+        return Ok(NO_FOLDER);
     }
     let status = match runs(rt, dir.as_str()) {
         Ok(status) if status != NO_OUTPUT => return Ok(status),

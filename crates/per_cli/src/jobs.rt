@@ -1,7 +1,7 @@
 //! A job of the program that is named as a call is: `per recover-root 0 --dir DIR`.
 
-use crate::program;
-use per_terminal::{REFUSED_WORDS, Screen, no_memory};
+use crate::saying::Screen;
+use crate::{REFUSED_WORDS, program};
 use per_words::options_in;
 use std::alloc::{AllocError, Global};
 use std::fs::File;
@@ -27,7 +27,7 @@ pub(crate) fn run<R: Files<File = File> + AllocGlobal + Input + Print + Screen>(
             );
             REFUSED_WORDS
         }
-        Err(_) => no_memory(rt),
+        Err(_) => program::no_memory(rt),
     }
 }
 

@@ -1,7 +1,7 @@
 //! What is in a folder, from a shell: `per ls --dir DIR`, and with `--json` for a program.
 
 use crate::program;
-use per_terminal::{Screen, no_memory};
+use crate::saying::Screen;
 use per_words::options_in;
 use std::alloc::{AllocError, Global};
 use std::fs::File;
@@ -15,7 +15,7 @@ pub(crate) fn run<R: Files<File = File> + AllocGlobal + Print + Screen>(
 ) -> u8 {
     match options_of(rt.alloc(), words) {
         Ok(options) => program::run(rt, options.as_slice(), io::empty(), io::writer(rt)),
-        Err(_) => no_memory(rt),
+        Err(_) => program::no_memory(rt),
     }
 }
 

@@ -1,6 +1,11 @@
 //! A run of the program over a folder, or a flash in it, and two streams.
 
-use crate::usage::say_usage;
+use crate::causes::{Ended, Fault, has_folder, say, say_foreign, say_of_folder};
+use crate::hearing::{LastRead, NotedInput};
+use crate::saying::Screen;
+use crate::telling::{Marks, Telling};
+use crate::trying::Place;
+use crate::{NO_DISK, NO_MEMORY, WRONG_SIZE};
 use flash_disk::{FlashOpenError, erase_all};
 use flash_model::Flash;
 use flash_reclaim::reclaim;
@@ -9,14 +14,9 @@ use folder_flash::{FolderFlash, of_flash};
 use migrate_fns::Migrations;
 use number_converters::{WithConverters, with_converters};
 use per_base::{Sink, Source};
-use per_refusals::{LastRead, Marks, NotedInput, Place, Telling};
 use per_run::{FlashRun, Job, JobKind, WordsError, per_flash, per_run, read_words};
 use per_system::{
     Access, DeviceKind, HostSystem, Noted, NotedFlash, Notes, StdSink, StdSource, holds_only_others,
-};
-use per_terminal::{
-    Ended, Fault, NO_DISK, NO_MEMORY, REFUSED_WORDS, Screen, WRONG_SIZE, has_folder, no_memory,
-    say_end, say_foreign, say_of_folder,
 };
 use std::alloc::{AllocError, Global};
 use std::fs::File;
@@ -137,7 +137,11 @@ fn run_with<R: Files<File = File> + Screen, I: Read + Drop, O: Write + Drop>(
     };
     let notes = Notes::new();
     let last = LastRead::new(alloc);
-    let input = NotedInput::new(input, target.takes_lines, &last);
+    let input = NotedInput {
+        input,
+        has_lines: target.takes_lines,
+        last: &last,
+    };
     let marks = Marks::new();
     run_noting(
         rt, alloc, migrations, words, input, output, &target, dir, &notes, &last, &marks,
@@ -194,7 +198,7 @@ fn run_noting<'a, R: Files<File = File> + Screen, I: Read + Drop, O: Write + Dro
         Err(failure) => not_held(notes, Some(failure)),
     };
     let failures = (source.failure(), sink.failure());
-    say_why(rt, alloc, words, target, outcome, notes, marks, failures);
+    say_end(rt, alloc, words, target, outcome, notes, marks, failures);
     outcome.status
 }
 
@@ -213,7 +217,7 @@ fn says_unfit<R: Files<File = File> + Screen>(rt: &R, alloc: Global, target: &Ta
 }
 
 /// Says why the run ended so, where there is something to say. The failures are those of the input and the output.
-fn say_why<R: Files + Screen>(
+fn say_end<R: Files + Screen>(
     rt: &R,
     alloc: Global,
     words: &[String],
@@ -223,14 +227,11 @@ fn say_why<R: Files + Screen>(
     marks: &Marks,
     failures: (Option<io::Error>, Option<io::Error>),
 ) {
-    if outcome.status == REFUSED_WORDS {
-        let _ = say_usage(rt, alloc, words);
-        return;
-    }
     let (source, sink) = failures;
     let ended = Ended {
         status: outcome.status,
         dir: target.dir.as_str(),
+        words,
         flash: target.flash,
         takes_lines: target.takes_lines,
         lists: target.lists,
@@ -241,7 +242,7 @@ fn say_why<R: Files + Screen>(
         source,
         sink,
     };
-    let _ = say_end(rt, alloc, &ended);
+    let _ = say(rt, alloc, &ended);
 }
 
 /// What the folder holds.
@@ -424,6 +425,12 @@ fn access_of(kind: &JobKind) -> Access {
         | JobKind::Import(_, _)
         | JobKind::RecoverRoot(_) => Access::Write,
     }
+}
+
+/// Says that memory ran out before the top call, and gives the status.
+pub(crate) fn no_memory<R: Eprint>(rt: &R) -> u8 {
+    let _ = rt.eprintln("per: memory ran out");
+    NO_MEMORY
 }
 
 /// What the arguments name, and the folder once more, for the disk; an empty name where the arguments are invalid.

@@ -1,7 +1,9 @@
 -- Texts one behind the other, to a sink.
-use Rattle.std.proofs.Common.{◌≡◌, ◌≤◌, ◌<◌, ◌+◌, ◌++◌, ◌∙◌, ℕ, List, [], ◌∷◌, Option, Result, Ok, Err, OnOk, OnErr, IsErr}
-use Rattle.std.proofs.Common.{ap, arith, append_assoc, append-nil, length, refl, subst, sym, take}
+use Rattle.std.proofs.Common.{◌≡◌, ◌≤◌, ◌<◌, ◌+◌, ◌++◌, ◌∙◌, ℕ, List, [], ◌∷◌, Option, Result, Ok, Err, OnOk, OnErr, IsErr, ap, arith}
+use Rattle.std.proofs.Common.{append_assoc, append-nil, length, refl, subst, sym, take}
+use Rattle.std.proofs.Math.Seq.{take-append-add}
 use Rattle.std.proofs.KnownBytes.{Appends-nil, Appends-trans}
+use Rattle.std.proofs.lemmas.List.{length-append, take-append-le}
 use Rattle.std.specs.Io.KnownBytes.{Appends}
 use Rattle.per_run.proofs.Spelled.{cut_sooner, later}
 use Rattle.per_run.specs.Jobs.{WroteProperPrefix}
@@ -110,7 +112,3 @@ on_failure (Err e) a b u v text failed cut = cut
 pub puts_as : {T E : Type 0} (r : Result T E) (a b : Option (List ℕ)) (u v text same : List ℕ)
     → PutsBehind a b u v text r → text ≡ same → PutsBehind a b u v same r
 puts_as r a b u v text same puts is = subst (λ l. PutsBehind a b u v l r) is puts
-
-pub hands_on : {T E : Type 0} (r : Result T E) (a b : Option (List ℕ)) (u v text same : List ℕ) → IsErr r
-    → WroteProperPrefix a b (u ++ text) → text ≡ same → PutsBehind a b u v same r
-hands_on r a b u v text same failed cut is = puts_as r a b u v text same (on_failure r a b u v text failed cut) is

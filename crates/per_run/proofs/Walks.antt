@@ -1,6 +1,5 @@
 -- The texts of types and values, part by part.
-use Rattle.std.proofs.Common.{◌≡◌, ◌≤◌, ◌<◌, ◌+◌, ◌++◌, ◌∙◌, ℕ, List, [], ◌∷◌, Vec, Global, ap, codes}
-use Rattle.std.proofs.Common.{drop, get_or, length, rules, sym}
+use Rattle.std.proofs.Common.{◌≡◌, ◌≤◌, ◌<◌, ◌+◌, ◌++◌, ◌∙◌, ℕ, List, [], ◌∷◌, Vec, Global, ap, codes, drop, get_or, length, rules, sym}
 use Rattle.std.proofs.lemmas.List.{drop_all, drop_more}
 use Rattle.std.specs.declared.rc.Rc.{Rc}
 use Rattle.value_model.specs.declared.nodes.Node as nodes

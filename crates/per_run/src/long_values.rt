@@ -1,5 +1,5 @@
-//! The reply that has a list or a group of fields, written piece by piece, so that its text is never there as a whole.
-//! It has the type of its items for each empty list, and may have a thousand million bytes.
+//! The reply that has a list or a group of fields, written piece by piece, so that its text is never there as a whole:
+//! each empty list of a value has the type of its items in the text, and that of 65,536 bytes may have a thousand million.
 
 ghost use Rattle.std.specs.Prelude.{◌≡◌, ◌++◌, ◌∷◌, [], OnOk, OnErr, IfSome, codes};
 ghost use Rattle.std.specs.Io.KnownBytes.{Appends};
@@ -30,9 +30,7 @@ pub fn nested_value(reply: &Reply) -> Option<&Value>
     ensures answer { IfSome result (λ value. reply.now.answer ≡ Answer.Val value.now) }
 {
     match &reply.answer {
-        Answer::Val(value) if is_nested(value) && reply.reports.as_slice().is_empty() => Some(
-            value,
-        ),
+        Answer::Val(value) if is_nested(value) && reply.reports.as_slice().is_empty() => Some(value),
         _ => None,
     }
 }
@@ -207,11 +205,7 @@ fn put_hex_byte<K: Sink>(sink: &mut K, waiting: &mut Vec<u8>, byte: u8) -> Resul
 
 /// Puts the text of a type.
 #[cycle(put_types)]
-fn put_type<K: Sink>(
-    sink: &mut K,
-    waiting: &mut Vec<u8>,
-    value_type: &ValueType,
-) -> Result<(), Failed>
+fn put_type<K: Sink>(sink: &mut K, waiting: &mut Vec<u8>, value_type: &ValueType) -> Result<(), Failed>
     ensures puts { PutsBehind (K.written sink.old) (K.written sink.new) waiting.old.items waiting.new.items
         (type_text (kind_of value_type.now)) result }
     ensures cause { HasCause (K.faults sink.old) (K.faults sink.new) result }

@@ -51,6 +51,7 @@ fn missing(rt: &impl Files<File = File>, alloc: Global) -> anyhow::Result<String
     let count = disk.read(0, 0, &mut out).unwrap_or(99);
     let is_synced = disk.sync().is_ok();
     let is_written = disk.write_at(0, 0, b"a").is_ok();
+    drop(disk);
     Ok(format!(in alloc; "read {count}, synced {is_synced}, written {is_written}")?)
 }
 

@@ -43,11 +43,20 @@ impl Snapshot {
     /// A disk with these files, on which nothing is pending.
     pub(crate) fn disk(&self, alloc: Global) -> Result<MemDisk, RowError> {
         let mut disk = MemDisk::new(alloc);
-        for (file, bytes) in &self.files {
-            disk.write_at(*file, 0, bytes).map_err(unasked)?;
+        match self.put_onto(&mut disk) {
+            Ok(()) => Ok(disk.crash(true)?),
+            Err(failed) => {
+                drop(disk);
+                Err(unasked(failed))
+            }
         }
-        disk.sync().map_err(unasked)?;
-        Ok(disk.crash(true)?)
+    }
+
+    fn put_onto(&self, disk: &mut MemDisk) -> Result<(), DiskFailed> {
+        for (file, bytes) in &self.files {
+            disk.write_at(*file, 0, bytes)?;
+        }
+        disk.sync()
     }
 }
 

@@ -52,8 +52,13 @@ pub(crate) fn run<D: Disk>(
     let mut source = MemSource::new(input, SOURCE_PIECE as u64, failing.source);
     let mut sink = MemSink::new(alloc, SINK_PIECE, failing.sink);
     let status = per_run(alloc, &words, migrations, &mut source, &mut sink, disk);
-    let output = shown(alloc, sink.bytes())?;
-    Ok(Ran { status, output })
+    let output = shown(alloc, sink.bytes());
+    drop(sink);
+    drop(source);
+    Ok(Ran {
+        status,
+        output: output?,
+    })
 }
 
 /// Runs the program with these words over this input, where no stream fails.

@@ -48,6 +48,27 @@ impl Restart {
     }
 }
 
+/// Which calls of the disk fail.
+#[derive(Clone, Copy)]
+enum Failure {
+    None,
+    /// The one of this number, counted from 0.
+    One(u64),
+    /// Each one after that many.
+    After(u64),
+}
+
+impl Failure {
+    fn plan(self, alloc: Global, disk: &mut MemDisk) -> Result<(), AllocError> {
+        match self {
+            Failure::None => {}
+            Failure::One(call) => disk.fail_calls(vec![in alloc; call]?),
+            Failure::After(passing) => disk.stop_after(passing),
+        }
+        Ok(())
+    }
+}
+
 /// Lines on a disk, or the input of another job, and lines that look at what is left of it in a new run.
 #[derive(Drop)]
 pub(crate) struct Script {
@@ -98,11 +119,21 @@ impl Script {
         Ok(())
     }
 
+    /// What one of the words `stops`, `failures`, `rejects` and `cuts` tells of the script.
+    pub(crate) fn told(&self, migrations: &Migrations, word: &str) -> Result<String, RowError> {
+        match word {
+            "stops" => self.stops(migrations),
+            "failures" => self.failures(migrations),
+            "rejects" => self.rejects(migrations),
+            _ => self.cuts(migrations),
+        }
+    }
+
     /// What a look finds after each number of lines; then `= kept` where, after a stop at each call of the disk and
     /// each restart, it finds what it does after the lines that were answered or after one more, and once it found the
     /// latter it stays so. Else the first stop after which it does not. Lines count as answered up to the first that
     /// failed at the disk.
-    pub(crate) fn stops(&self, migrations: &Migrations) -> Result<String, RowError> {
+    fn stops(&self, migrations: &Migrations) -> Result<String, RowError> {
         let states = self.states(migrations)?;
         let mut shown = String::new(self.alloc);
         for (count, state) in states.iter().enumerate() {
@@ -123,13 +154,13 @@ impl Script {
     /// and a look at the end of the run finds what one in a new run finds, which is one of the states that the lines
     /// lead through. Where the start fails, the status is 3, and nothing is written. Else the first call for which it
     /// is not so.
-    pub(crate) fn failures(&self, migrations: &Migrations) -> Result<String, RowError> {
+    fn failures(&self, migrations: &Migrations) -> Result<String, RowError> {
         let states = self.states(migrations)?;
         let mut input = self.input.clone()?;
         input.extend_from_slice(self.look.as_bytes())?;
         for call in 0..self.calls(migrations)? {
-            let (ran, disk) = self.failed_at(migrations, input.as_slice(), call)?;
-            let found = self.found(migrations, disk)?;
+            let failure = Failure::One(call);
+            let (ran, found) = self.tried(migrations, input.as_slice(), failure, Restart::All)?;
             if !is_kept(self.alloc, &states, self.lines.len(), &ran, found.as_str())? {
                 let status = ran.status;
                 return Ok(format!(in self.alloc; "= call {call}: status {status}, {found}\n")?);
@@ -140,9 +171,8 @@ impl Script {
 
     /// `= kept` where a call of the source that fails gives status 5 and the replies to all whole lines before it, and
     /// a call of the sink that fails status 6 and a prefix of the output. Else the first call for which it is not so.
-    pub(crate) fn cuts(&self, migrations: &Migrations) -> Result<String, RowError> {
-        let mut disk = self.start.disk(self.alloc)?;
-        let whole = self.ran(migrations, self.input.as_slice(), &mut disk)?;
+    fn cuts(&self, migrations: &Migrations) -> Result<String, RowError> {
+        let whole = self.cut(migrations, Failing::none(self.alloc))?;
         if let Some(fault) = self.source_cuts(migrations, whole.output.as_str())? {
             return Ok(fault);
         }
@@ -154,7 +184,7 @@ impl Script {
 
     /// `= rejected` where the input, cut off at each length and with each byte as another, is answered error 31 with
     /// status 9, and a look finds what it did before. Else the first input for which it is not so.
-    pub(crate) fn rejects(&self, migrations: &Migrations) -> Result<String, RowError> {
+    fn rejects(&self, migrations: &Migrations) -> Result<String, RowError> {
         let before = self.found(migrations, self.start.disk(self.alloc)?)?;
         for place in 0..self.input.len() {
             let cut = self.input.get(..place).unwrap_or(&[]);
@@ -181,9 +211,7 @@ impl Script {
         input: &[u8],
         before: &str,
     ) -> Result<bool, RowError> {
-        let mut disk = self.start.disk(self.alloc)?;
-        let ran = self.ran(migrations, input, &mut disk)?;
-        let found = self.found(migrations, disk.crash(true)?)?;
+        let (ran, found) = self.tried(migrations, input, Failure::None, Restart::All)?;
         let is_answered = ran.output.as_str() == "error 31 ExportRejected\n";
         Ok(ran.status == 9 && is_answered && found.as_str() == before)
     }
@@ -202,9 +230,38 @@ impl Script {
 
     /// What a look finds after an input.
     fn state(&self, migrations: &Migrations, input: &[u8]) -> Result<String, RowError> {
+        let (_, found) = self.tried(migrations, input, Failure::None, Restart::All)?;
+        Ok(found)
+    }
+
+    /// What comes of an input on the disk of the start, on which these calls fail, and what a look finds after a
+    /// restart.
+    fn tried(
+        &self,
+        migrations: &Migrations,
+        input: &[u8],
+        failure: Failure,
+        restart: Restart,
+    ) -> Result<(Ran, String), RowError> {
         let mut disk = self.start.disk(self.alloc)?;
-        self.ran(migrations, input, &mut disk)?;
-        self.found(migrations, disk.crash(true)?)
+        match self.ran_on(migrations, input, failure, &mut disk) {
+            Ok(ran) => Ok((ran, self.found(migrations, restart.restarted(disk)?)?)),
+            Err(error) => {
+                drop(disk);
+                Err(error.into())
+            }
+        }
+    }
+
+    fn ran_on(
+        &self,
+        migrations: &Migrations,
+        input: &[u8],
+        failure: Failure,
+        disk: &mut MemDisk,
+    ) -> Result<Ran, AllocError> {
+        failure.plan(self.alloc, disk)?;
+        self.ran(migrations, input, disk)
     }
 
     /// What comes of the words over an input.
@@ -220,17 +277,15 @@ impl Script {
     /// What a look finds on a disk.
     fn found(&self, migrations: &Migrations, disk: MemDisk) -> Result<String, RowError> {
         let mut disk = disk;
-        let look = self.look.as_bytes();
-        let ran = run_over(self.alloc, PLAIN, migrations, look, &mut disk)?;
-        Ok(answers(self.alloc, ran.output.as_str())?)
+        let ran = run_over(self.alloc, PLAIN, migrations, self.look.as_bytes(), &mut disk);
+        drop(disk);
+        Ok(answers(self.alloc, ran?.output.as_str())?)
     }
 
     /// After how many calls of the disk the lines are stopped: none, each after which something was written or synced,
     /// and all. What a stop after another call leaves is what one of these leaves.
     fn moments(&self, migrations: &Migrations) -> Result<Vec<u64>, RowError> {
-        let disk = self.start.disk(self.alloc)?;
-        let mut counting = Counting::new(disk, vec![in self.alloc; 0]?);
-        self.ran(migrations, self.input.as_slice(), &mut counting)?;
+        let counting = self.counted(migrations, vec![in self.alloc; 0]?)?;
         let calls = counting.calls();
         let mut moments = counting.into_moments();
         moments.push(calls)?;
@@ -245,13 +300,12 @@ impl Script {
         moments: &[u64],
         restart: Restart,
     ) -> Result<Option<String>, RowError> {
+        let input = self.input.as_slice();
         let mut last = Stop::default();
         for passing in moments {
-            let mut disk = self.start.disk(self.alloc)?;
-            disk.stop_after(*passing);
-            let ran = self.ran(migrations, self.input.as_slice(), &mut disk)?;
+            let failure = Failure::After(*passing);
+            let (ran, found) = self.tried(migrations, input, failure, restart)?;
             let answered = answered(ran.output.as_str());
-            let found = self.found(migrations, restart.restarted(disk)?)?;
             let now = Stop::at(&last, states, answered, found.as_str());
             if !now.is_kept {
                 let name = restart.name();
@@ -266,23 +320,22 @@ impl Script {
 
     /// How many calls of the disk the lines make.
     fn calls(&self, migrations: &Migrations) -> Result<u64, RowError> {
-        let disk = self.start.disk(self.alloc)?;
-        let mut counting = Counting::new(disk, Vec::new(self.alloc));
-        self.ran(migrations, self.input.as_slice(), &mut counting)?;
-        Ok(counting.calls())
+        let counting = self.counted(migrations, Vec::new(self.alloc))?;
+        let calls = counting.calls();
+        drop(counting);
+        Ok(calls)
     }
 
-    /// The lines with one call of the disk failing, and the disk after a restart.
-    fn failed_at(
-        &self,
-        migrations: &Migrations,
-        input: &[u8],
-        call: u64,
-    ) -> Result<(Ran, MemDisk), RowError> {
-        let mut disk = self.start.disk(self.alloc)?;
-        disk.fail_calls(vec![in self.alloc; call]?);
-        let ran = self.ran(migrations, input, &mut disk)?;
-        Ok((ran, disk.crash(true)?))
+    /// The disk on which the lines were counted, with these moments before theirs.
+    fn counted(&self, migrations: &Migrations, moments: Vec<u64>) -> Result<Counting, RowError> {
+        let mut counting = Counting::new(self.start.disk(self.alloc)?, moments);
+        match self.ran(migrations, self.input.as_slice(), &mut counting) {
+            Ok(_) => Ok(counting),
+            Err(error) => {
+                drop(counting);
+                Err(error.into())
+            }
+        }
     }
 
     fn source_cuts(
@@ -333,10 +386,12 @@ impl Script {
 
     /// The lines over streams that fail.
     fn cut(&self, migrations: &Migrations, failing: Failing) -> Result<Ran, RowError> {
-        let mut disk = self.start.disk(self.alloc)?;
         let input = self.input.clone()?;
         let words = self.words.as_str();
-        Ok(run(self.alloc, words, migrations, input, failing, &mut disk)?)
+        let mut disk = self.start.disk(self.alloc)?;
+        let ran = run(self.alloc, words, migrations, input, failing, &mut disk);
+        drop(disk);
+        Ok(ran?)
     }
 }
 

@@ -81,7 +81,7 @@ impl Session {
 
     /// Begins with a new disk.
     fn begin(&mut self, migrations: &Migrations, kind: &str) -> Result<(), RowError> {
-        self.disk = MemDisk::new(self.alloc);
+        drop(mem::replace(&mut self.disk, MemDisk::new(self.alloc)));
         if kind == "formatted" {
             let none = Vec::new(self.alloc);
             let failing = Failing::none(self.alloc);
@@ -159,12 +159,9 @@ impl Session {
         let start = Snapshot::taken(self.alloc, &mut self.disk)?;
         let words = words_or_plain(words);
         let script = Script::of_rows(self.alloc, start, words, &self.texts, &rows)?;
-        let told = match word {
-            "stops" => script.stops(migrations)?,
-            "failures" => script.failures(migrations)?,
-            "rejects" => script.rejects(migrations)?,
-            _ => script.cuts(migrations)?,
-        };
+        let told = script.told(migrations, word);
+        drop(script);
+        let told = told?;
         let shown = transcript(self.alloc, &rows, row, "")?;
         Ok(Some(format!(in self.alloc; "{shown}{told}")?))
     }
@@ -191,24 +188,27 @@ impl Session {
 
     /// How many calls of the disk the lines of the first rows make.
     fn calls_before(&mut self, migrations: &Migrations, rows: usize) -> Result<u64, RowError> {
-        let disk = Snapshot::taken(self.alloc, &mut self.disk)?.disk(self.alloc)?;
         let front = self.rows.get(..rows).unwrap_or(&[]);
         let input = input_of(self.alloc, &self.texts, front)?;
+        let disk = Snapshot::taken(self.alloc, &mut self.disk)?.disk(self.alloc)?;
         let mut counting = Counting::new(disk, Vec::new(self.alloc));
-        run_over(
+        let ran = run_over(
             self.alloc,
             PLAIN,
             migrations,
             input.as_slice(),
             &mut counting,
-        )?;
-        Ok(counting.calls())
+        );
+        let calls = counting.calls();
+        drop(counting);
+        ran?;
+        Ok(calls)
     }
 
     /// Restarts the disk with all that was written.
     fn restart(&mut self) -> Result<(), AllocError> {
         let disk = mem::replace(&mut self.disk, MemDisk::new(self.alloc));
-        self.disk = disk.crash(true)?;
+        drop(mem::replace(&mut self.disk, disk.crash(true)?));
         Ok(())
     }
 }

@@ -43,7 +43,7 @@ pub(crate) fn line(alloc: Global, row: &str) -> Result<String, RowError> {
         return Err(RowError::NotARow);
     }
     let line = generated_line(alloc, count, x, place)?;
-    String::from_utf8(line).map_err(|_| RowError::NotARow)
+    String::from_utf8(line).ok().ok_or(RowError::NotARow)
 }
 
 /// A number of a generated input.

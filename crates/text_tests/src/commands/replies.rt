@@ -17,11 +17,12 @@ use value_text::parse_value;
 pub(crate) fn text(alloc: Global, row: &str) -> Result<String, RowError> {
     let reply = reply(alloc, row)?;
     let text = print_reply(alloc, &reply);
+    drop(reply);
     quoted(alloc, text)
 }
 
 fn quoted(alloc: Global, text: Result<Vec<u8>, AllocError>) -> Result<String, RowError> {
-    let text = String::from_utf8(text?).map_err(|_| RowError::NotARow)?;
+    let text = String::from_utf8(text?).ok().ok_or(RowError::NotARow)?;
     Ok(format!(in alloc; "{text:?}")?)
 }
 
@@ -101,7 +102,7 @@ fn answer(alloc: Global, text: &str) -> Result<Answer, RowError>
 }
 
 fn value(alloc: Global, text: &str) -> Result<Value, RowError> {
-    parse_value(alloc, text.as_bytes()).map_err(|_| RowError::NotARow)
+    parse_value(alloc, text.as_bytes()).ok().ok_or(RowError::NotARow)
 }
 
 /// An info: the three moments, and the two causes.

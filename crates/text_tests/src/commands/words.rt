@@ -10,7 +10,7 @@ pub(crate) fn words_of<'a>(alloc: Global, row: &'a str) -> Result<Vec<&'a str>, 
 }
 
 pub(crate) fn name(alloc: Global, word: &str) -> Result<Name, RowError> {
-    Name::new(alloc, word).map_err(|_| RowError::NotARow)
+    Name::new(alloc, word).ok().ok_or(RowError::NotARow)
 }
 
 /// The name, or none for a hyphen.
@@ -47,10 +47,10 @@ pub(crate) fn octets(alloc: Global, row: &str) -> Result<Bytes, RowError> {
 
 /// A number of 64 bits.
 pub(crate) fn wide(word: &str) -> Result<u64, RowError> {
-    word.parse::<u64>().map_err(|_| RowError::NotARow)
+    word.parse::<u64>().ok().ok_or(RowError::NotARow)
 }
 
 /// A number of 8 bits.
 pub(crate) fn byte(word: &str) -> Result<u8, RowError> {
-    word.parse::<u8>().map_err(|_| RowError::NotARow)
+    word.parse::<u8>().ok().ok_or(RowError::NotARow)
 }

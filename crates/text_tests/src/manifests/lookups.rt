@@ -14,15 +14,21 @@ use value_text::push_hex;
 
 /// The deployment that a manifest says.
 pub(crate) fn read(alloc: Global, row: &str) -> Result<String, RowError> {
-    let deployment = deployment(alloc, row)?;
-    Ok(deployment_text(alloc, &deployment)?)
+    whole(alloc, deployment(alloc, row)?)
 }
 
 /// A copy of it.
 pub(crate) fn copy(alloc: Global, row: &str) -> Result<String, RowError> {
     let deployment = deployment(alloc, row)?;
-    let copy = deployment.copy(alloc)?;
-    Ok(deployment_text(alloc, &copy)?)
+    let copy = deployment.copy(alloc);
+    drop(deployment);
+    whole(alloc, copy?)
+}
+
+fn whole(alloc: Global, deployment: Deployment) -> Result<String, RowError> {
+    let text = deployment_text(alloc, &deployment);
+    drop(deployment);
+    Ok(text?)
 }
 
 /// The number of a storage, and the storage; of each, whether there is none.
@@ -30,8 +36,16 @@ pub(crate) fn storage(alloc: Global, row: &str) -> Result<String, RowError> {
     let (word, manifest) = row.split_once(' ').ok_or(RowError::NotARow)?;
     let name = name(alloc, word)?;
     let deployment = deployment(alloc, manifest)?;
-    let number = deployment.number(&name);
-    let storage = match deployment.storage(&name) {
+    let text = storage_in(alloc, &deployment, &name);
+    drop(deployment);
+    text
+}
+
+fn storage_in(alloc: Global, deployment: &Deployment, name: &Name) -> Result<String, RowError>
+    requires { IsDeployment (deployment_data deployment.now) }
+{
+    let number = deployment.number(name);
+    let storage = match deployment.storage(name) {
         Some(storage) => storage_text(alloc, storage)?,
         None => String::from_str(alloc, "no storage")?,
     };
@@ -45,10 +59,12 @@ pub(crate) fn element(alloc: Global, row: &str) -> Result<String, RowError> {
     let storage = name(alloc, storage)?;
     let element = name(alloc, element)?;
     let deployment = deployment(alloc, manifest)?;
-    match deployment.storage(&storage) {
+    let text = match deployment.storage(&storage) {
         Some(storage) => element_of(alloc, storage, &element),
         None => Err(RowError::NotARow),
-    }
+    };
+    drop(deployment);
+    text
 }
 
 fn element_of(alloc: Global, storage: &StorageConfig, name: &Name) -> Result<String, RowError>
@@ -69,12 +85,15 @@ fn element_of(alloc: Global, storage: &StorageConfig, name: &Name) -> Result<Str
 }
 
 fn name(alloc: Global, word: &str) -> Result<Name, RowError> {
-    Name::new(alloc, word).map_err(|_| RowError::NotARow)
+    Name::new(alloc, word).ok().ok_or(RowError::NotARow)
 }
 
 fn deployment(alloc: Global, row: &str) -> Result<Deployment, RowError>
     ensures { IfOk result (λ d. IsDeployment (deployment_data d)) }
 {
     let text = spelled_bytes(alloc, row)?;
-    read_manifest(alloc, text.as_slice()).map_err(|_| RowError::NotARow)
+    match read_manifest(alloc, text.as_slice()) {
+        Ok(deployment) => Ok(deployment),
+        Err(_) => Err(RowError::NotARow),
+    }
 }

@@ -24,7 +24,10 @@ pub(crate) fn prefixes(alloc: Global, row: &str) -> Result<String, RowError> {
 
 fn rule_of(alloc: Global, text: &[u8]) -> Result<u32, RowError> {
     match read_manifest(alloc, text) {
-        Ok(_) => Ok(0),
+        Ok(deployment) => {
+            drop(deployment);
+            Ok(0)
+        }
         Err(ManifestError::Rejected(rule)) => Ok(rule),
         Err(ManifestError::OutOfMemory) => Err(RowError::OutOfMemory),
     }

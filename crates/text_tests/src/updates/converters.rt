@@ -98,18 +98,16 @@ pub(crate) fn bool_to_text(_: &Value) -> Result<Value, AllocError>
     Err(AllocError)
 }
 
-/// Adds a converter.
-pub(crate) fn add(
-    list: &mut Vec<Migration>,
+/// A converter, one of a list.
+pub(crate) fn migration(
     element: Option<Name>,
     from: ValueType,
     to: ValueType,
     convert: Converter,
-) -> Result<(), AllocError>
+) -> Migration
     requires callable { (v : _) → type_of v.now ≡ kind_of from → Converter.pre convert v }
     requires answers { (v : _) (r : _) → type_of v.now ≡ kind_of from → Converter.post convert v r
         → ForOk r (λ w. type_of w ≡ kind_of to) }
 {
-    list.push(Migration::new(element, from, to, convert))?;
-    Ok(())
+    Migration::new(element, from, to, convert)
 }

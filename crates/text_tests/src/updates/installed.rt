@@ -40,7 +40,10 @@ pub(crate) struct Damage<'a> {
 pub(crate) fn deployment(alloc: Global, manifest: &str) -> Result<Deployment, RowError>
     ensures { IfOk result (λ d. IsDeployment (deployment_data d)) }
 {
-    read_manifest(alloc, manifest.as_bytes()).map_err(|_| RowError::NotARow)
+    match read_manifest(alloc, manifest.as_bytes()) {
+        Ok(deployment) => Ok(deployment),
+        Err(_) => Err(RowError::NotARow),
+    }
 }
 
 /// What is stored once the deployment is installed and this damage is done.
@@ -110,6 +113,7 @@ fn entry(alloc: Global, fresh: &Fresh, damage: Damage) -> Result<Entry, AllocErr
     requires { length fresh.now.bytes ≤ 1048576 }
     ensures { IfOk result (Stores fresh.now) }
 {
+    let name = fresh.name.copy()?;
     let bytes = fresh.bytes.copy()?;
     let len = bytes.len() as u32;
     let content = if fresh.name.as_str() == damage.name {
@@ -118,7 +122,7 @@ fn entry(alloc: Global, fresh: &Fresh, damage: Damage) -> Result<Entry, AllocErr
         Content::Good(bytes)
     };
     Ok(Entry {
-        name: fresh.name.copy()?,
+        name,
         info: fresh.info,
         changed: 1,
         len,

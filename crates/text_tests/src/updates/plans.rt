@@ -25,10 +25,46 @@ pub(crate) fn update(
 ) -> Result<String, RowError> {
     let (old, rest) = row.split_once('|').ok_or(RowError::NotARow)?;
     let (damage, new) = rest.split_once('|').ok_or(RowError::NotARow)?;
+    let damage = damage_of(damage)?;
     let old = deployment(alloc, old)?;
+    let said = update_of(alloc, migrations, &old, damage, new);
+    drop(old);
+    said
+}
+
+fn update_of(
+    alloc: Global,
+    migrations: &Migrations,
+    old: &Deployment,
+    damage: Damage<'_>,
+    new: &str,
+) -> Result<String, RowError>
+    requires { IsDeployment (deployment_data old.now) }
+{
     let new = deployment(alloc, new)?;
-    let contents = installed(alloc, &old, damage_of(damage)?)?;
-    plan_over(alloc, migrations, &old, &contents, &new)
+    let said = match installed(alloc, old, damage) {
+        Ok(contents) => plan_with(alloc, migrations, old, contents, &new),
+        Err(error) => Err(error),
+    };
+    drop(new);
+    said
+}
+
+/// What comes of an update over these contents, which go with it.
+fn plan_with(
+    alloc: Global,
+    migrations: &Migrations,
+    old: &Deployment,
+    contents: Contents,
+    new: &Deployment,
+) -> Result<String, RowError>
+    requires old { IsDeployment (deployment_data old.now) }
+    requires new { IsDeployment (deployment_data new.now) }
+    requires contents { AllByRecursion (IsStoredOf (deployment_data old.now)) contents }
+{
+    let said = plan_over(alloc, migrations, old, &contents, new);
+    drop(contents);
+    said
 }
 
 /// What comes of an update over these contents.
@@ -44,8 +80,16 @@ fn plan_over(
     requires contents { AllByRecursion (IsStoredOf (deployment_data old.now)) contents.now }
 {
     match plan(alloc, old, contents, new, migrations, UPDATED) {
-        Ok(plans) => plan_text(alloc, new, plans.as_slice()),
-        Err(error) => refusal_text(alloc, &error),
+        Ok(plans) => {
+            let said = plan_text(alloc, new, plans.as_slice());
+            drop(plans);
+            said
+        }
+        Err(error) => {
+            let said = refusal_text(alloc, &error);
+            drop(error);
+            said
+        }
     }
 }
 
@@ -69,7 +113,10 @@ pub(crate) fn nothing_stored(alloc: Global, row: &str) -> Result<String, RowErro
     let new = deployment(alloc, row)?;
     let migrations = Migrations::new(Vec::new(alloc));
     let contents = Sequence::new(Vec::new(alloc));
-    plan_over(alloc, &migrations, &new, &contents, &new)
+    let said = plan_with(alloc, &migrations, &new, contents, &new);
+    drop(migrations);
+    drop(new);
+    said
 }
 
 /// What the storages start with, for a cause, at the moment of the updates.
@@ -77,7 +124,9 @@ pub(crate) fn start(alloc: Global, row: &str) -> Result<String, RowError> {
     let (cause, new) = row.split_once('|').ok_or(RowError::NotARow)?;
     let cause = cause_of(cause)?;
     let new = deployment(alloc, new)?;
-    started(alloc, &new, cause)
+    let said = started(alloc, &new, cause);
+    drop(new);
+    said
 }
 
 fn cause_of(word: &str) -> Result<Cause, RowError> {

@@ -41,8 +41,10 @@ fn push_elements(
 }
 
 fn push_value(alloc: Global, text: &mut String, bytes: &[u8]) -> Result<(), RowError> {
-    let value = decode(alloc, bytes).map_err(|_| RowError::NotARow)?;
-    text.push_str(print_value(alloc, &value)?.as_str())?;
+    let value = decode(alloc, bytes).ok().ok_or(RowError::NotARow)?;
+    let printed = print_value(alloc, &value);
+    drop(value);
+    text.push_str(printed?.as_str())?;
     Ok(())
 }
 

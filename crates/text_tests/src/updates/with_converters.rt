@@ -1,20 +1,20 @@
 //! Rows that begin with a list of converters.
 
 use crate::updates::converters::{
-    add, bool_to_text, i8_to_i16, i16_to_i32, i32_to_i64, i64_to_bool, u8_to_u16, u8_to_u64,
+    bool_to_text, i8_to_i16, i16_to_i32, i32_to_i64, i64_to_bool, migration, u8_to_u16, u8_to_u64,
     u16_to_u32, u32_to_u64, u64_to_i8,
 };
 use crate::updates::{chains, plans};
-use migrate_fns::Migrations;
+use migrate_fns::{Migration, Migrations};
 use per_base::Name;
-use std::alloc::Global;
+use std::alloc::{AllocError, Global};
 use test_rows::RowError;
 use typed_value::ValueType;
 
-/// Adds a converter between two types to a list.
-macro_rules! add_to {
-    ($alloc:expr, $list:expr, $element:expr, $from:ident, $to:ident, $convert:ident) => {
-        add(&mut $list, $element, ValueType::$from, ValueType::$to, Box::new($alloc, $convert)?)?
+/// A converter between two types.
+macro_rules! between {
+    ($alloc:expr, $element:expr, $from:ident, $to:ident, $convert:ident) => {
+        migration($element, ValueType::$from, ValueType::$to, Box::new($alloc, $convert)?)
     };
 }
 
@@ -24,25 +24,40 @@ pub(crate) fn shown(alloc: Global, word: &str, row: &str) -> Result<String, RowE
     let mut list = Vec::new(alloc);
     for converter in converters.split_whitespace() {
         let element = element_of(alloc, converter)?;
-        match types_of(converter) {
-            "u8>u16" => add_to!(alloc, list, element, U8, U16, u8_to_u16),
-            "u16>u32" => add_to!(alloc, list, element, U16, U32, u16_to_u32),
-            "u32>u64" => add_to!(alloc, list, element, U32, U64, u32_to_u64),
-            "i8>i16" => add_to!(alloc, list, element, I8, I16, i8_to_i16),
-            "i16>i32" => add_to!(alloc, list, element, I16, I32, i16_to_i32),
-            "i32>i64" => add_to!(alloc, list, element, I32, I64, i32_to_i64),
-            "u8>u64" => add_to!(alloc, list, element, U8, U64, u8_to_u64),
-            "u64>i8" => add_to!(alloc, list, element, U64, I8, u64_to_i8),
-            "i64>bool" => add_to!(alloc, list, element, I64, Bool, i64_to_bool),
-            "bool>text" => add_to!(alloc, list, element, Bool, Text, bool_to_text),
-            _ => return Err(RowError::NotARow),
+        match migration_of(alloc, element, types_of(converter))? {
+            Some(migration) => list.push(migration)?,
+            None => return Err(RowError::NotARow),
         }
     }
     if list.len() > 100 {
         return Err(RowError::NotARow);
     }
     let migrations = Migrations::new(list);
-    case(alloc, word, &migrations, rest)
+    let said = case(alloc, word, &migrations, rest);
+    drop(migrations);
+    said
+}
+
+/// The converter between these types, for this element; none where no row names such types.
+fn migration_of(
+    alloc: Global,
+    element: Option<Name>,
+    types: &str,
+) -> Result<Option<Migration>, AllocError> {
+    let migration = match types {
+        "u8>u16" => between!(alloc, element, U8, U16, u8_to_u16),
+        "u16>u32" => between!(alloc, element, U16, U32, u16_to_u32),
+        "u32>u64" => between!(alloc, element, U32, U64, u32_to_u64),
+        "i8>i16" => between!(alloc, element, I8, I16, i8_to_i16),
+        "i16>i32" => between!(alloc, element, I16, I32, i16_to_i32),
+        "i32>i64" => between!(alloc, element, I32, I64, i32_to_i64),
+        "u8>u64" => between!(alloc, element, U8, U64, u8_to_u64),
+        "u64>i8" => between!(alloc, element, U64, I8, u64_to_i8),
+        "i64>bool" => between!(alloc, element, I64, Bool, i64_to_bool),
+        "bool>text" => between!(alloc, element, Bool, Text, bool_to_text),
+        _ => return Ok(None),
+    };
+    Ok(Some(migration))
 }
 
 fn case(alloc: Global, word: &str, migrations: &Migrations, row: &str) -> Result<String, RowError> {

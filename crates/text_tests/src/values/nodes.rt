@@ -81,23 +81,33 @@ fn items(alloc: Global, count: u32) -> Result<Vec<Node>, AllocError> {
 /// Of a value its type; whether that fits, is had, is that of a copy, and is `bool`; and the node, borrowed and handed
 /// back.
 pub(crate) fn parts(alloc: Global, text: &str) -> Result<String, RowError> {
-    let value = parse_value(alloc, text.as_bytes()).map_err(|_| RowError::NotARow)?;
+    let value = parse_value(alloc, text.as_bytes()).ok().ok_or(RowError::NotARow)?;
     let parts = parts_of(alloc, &value);
     let node = value.into_node();
-    with_node(parts, &node)
+    let parts = with_node(parts, &node);
+    drop(node);
+    parts
 }
 
 fn parts_of(alloc: Global, value: &Value) -> Result<String, RowError> {
     let value_type = value.value_type(alloc)?;
+    let parts = typed_parts(alloc, value, &value_type);
+    drop(value_type);
+    Ok(parts?)
+}
+
+fn typed_parts(alloc: Global, value: &Value, value_type: &ValueType) -> Result<String, AllocError> {
     let copy = value_type.copy(alloc)?;
+    let is_same = copy.is_same(value_type);
+    drop(copy);
     let mut parts = format!(in alloc; "{value_type:?} {}", value_type.fits())?;
-    write!(parts, " {}", value.has_type(&value_type))?;
-    write!(parts, " {}", copy.is_same(&value_type))?;
+    write!(parts, " {} {is_same}", value.has_type(value_type))?;
     write!(parts, " {}", value_type.is_same(&ValueType::Bool))?;
     write!(parts, " {:?}", value.node())?;
     Ok(parts)
 }
 
+/// What was said of a value, and its node.
 fn with_node(parts: Result<String, RowError>, node: &Node) -> Result<String, RowError> {
     let mut parts = parts?;
     write!(parts, " {node:?}")?;

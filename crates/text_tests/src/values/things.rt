@@ -46,7 +46,9 @@ fn shown<T: PerValue + Debug + Drop>(alloc: Global, thing: T) -> Result<String, 
 
 fn parts<T: PerValue + Debug + Drop>(alloc: Global, thing: &T) -> Result<String, ValueError> {
     let value = thing.to_value(alloc)?;
-    parts_of(alloc, thing, &value)
+    let parts = parts_of(alloc, thing, &value);
+    drop(value);
+    parts
 }
 
 fn parts_of<T: PerValue + Debug + Drop>(
@@ -55,16 +57,19 @@ fn parts_of<T: PerValue + Debug + Drop>(
     value: &Value,
 ) -> Result<String, ValueError> {
     let value_type = T::type_of(alloc)?;
-    let mut parts = format!(in alloc; "{value_type:?} {:?}", value.node())?;
-    if value.has_type(&value_type) {
-        push(&mut parts, &T::from_value(alloc, value)?)?;
-        push(&mut parts, &there_and_back(alloc, thing)?)?;
-        push(&mut parts, back_and_forth::<T>(alloc, value)?.node())?;
+    let has_type = value.has_type(&value_type);
+    let parts = format!(in alloc; "{value_type:?} {:?}", value.node());
+    drop(value_type);
+    let mut parts = parts?;
+    if has_type {
+        push(&mut parts, T::from_value(alloc, value)?)?;
+        push(&mut parts, there_and_back(alloc, thing)?)?;
+        push(&mut parts, back_and_forth::<T>(alloc, value)?.into_node())?;
     }
     Ok(parts)
 }
 
-fn push(parts: &mut String, part: &impl Debug) -> Result<(), AllocError> {
+fn push<D: Debug + Drop>(parts: &mut String, part: D) -> Result<(), AllocError> {
     write!(parts, " {part:?}")
 }
 
@@ -72,7 +77,7 @@ fn of<T: FromStr>(word: &str) -> Result<T, RowError>
 where
     <T as FromStr>::Err: Drop,
 {
-    word.parse::<T>().map_err(|_| RowError::NotARow)
+    word.parse::<T>().ok().ok_or(RowError::NotARow)
 }
 
 fn text(alloc: Global, text: &str) -> Result<ValueText, RowError> {
@@ -80,17 +85,16 @@ fn text(alloc: Global, text: &str) -> Result<ValueText, RowError> {
 }
 
 fn octets(alloc: Global, digits: &str) -> Result<Vec<u8>, RowError> {
-    hex::decode(alloc, digits).map_err(|_| RowError::NotARow)
+    hex::decode(alloc, digits).ok().ok_or(RowError::NotARow)
 }
 
 /// A favourite: two numbers and a label.
 fn favourite(alloc: Global, row: &str) -> Result<Favourite, RowError> {
     let (lat, rest) = row.split_once(' ').ok_or(RowError::NotARow)?;
     let (lon, label) = rest.split_once(' ').ok_or(RowError::NotARow)?;
-    let label = text(alloc, label)?;
     Ok(Favourite {
         lat: of::<i32>(lat)?,
         lon: of::<i32>(lon)?,
-        label,
+        label: text(alloc, label)?,
     })
 }

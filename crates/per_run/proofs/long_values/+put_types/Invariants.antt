@@ -8,6 +8,5 @@ use Rattle.per_run.proofs.long_values.+put_types.Given as goal
 abbrev pub invariant-put_member_types-loop-member : goal.invariant-put_member_types-loop-member
 invariant-put_member_types-loop-member g l = Putting (g.K.Sink.written l.fn.sink) (g.K.Sink.written l.sink)
     l.fn.waiting.items
-    l.waiting.items (types_text (kinds_view l.members)) (further_types_text (kinds_view (drop l.member-index
-    l.others)))
+    l.waiting.items (types_text (kinds_view l.members)) (further_types_text (kinds_view (drop l.member-index l.others)))
     (g.K.Sink.faults l.fn.sink) (g.K.Sink.faults l.sink)

@@ -1,5 +1,0 @@
-use Rattle.std.specs.Prelude.{◌≡◌}
-use Rattle.deploy_tests.proofs.storages.stored.Given as goal
-
-abbrev pub invariant-loop-config : goal.invariant-loop-config
-invariant-loop-config l = l.number ≡ l.config-index
